@@ -1,0 +1,5 @@
+pub mod Bounds
+pub mod Distance
+pub mod Faults
+pub mod Reach
+pub mod Answering

@@ -1,0 +1,4 @@
+pub mod Bounded
+pub mod Fault
+pub mod Meaning
+pub mod Interface

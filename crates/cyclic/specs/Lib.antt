@@ -1,0 +1,5 @@
+pub mod Polynomial
+pub mod Sound
+pub mod Generator
+pub mod Search
+pub mod Code

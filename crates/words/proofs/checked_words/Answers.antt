@@ -1,0 +1,6 @@
+use mathlib.Core.Path.{refl}
+use Rattle.words.proofs.Rows.{all-stand}
+use Rattle.words.proofs.checked_words.Needs as need
+
+pub returns : need.returns
+returns c = record { value = refl; stand = all-stand }
