@@ -1,6 +1,6 @@
 -- The refusals of a code, each from what its tests found, and that a lawful meaning leaves one answer.
 use mathlib.Core.Path.{_≡_, refl, sym, ap, subst, _∙_}
-use mathlib.Core.Bool.{true}
+use mathlib.Core.Bool.{Bool, true, false}
 use mathlib.Core.List.{[], _∷_}
 use mathlib.Core.Logic.{inl, inr, ⊎-elim}
 use Prim.Native.Nat.{ℕ, _+_, _*_, _/_, _%_, _^_, _≤_, _<_}
@@ -8,7 +8,7 @@ use native.Mathlib.Nat.{div-eq-of-lt}
 use native.Mathlib.Omega.{arith}
 use lib.Bits.{bitXor}
 use lib.Pow.{split, pow-pos}
-use Rattle.std.specs.declared.result.Result.the-variants.{Ok, Err}
+use Rattle.std.specs.Orderings.{When}
 use Rattle.std.proofs.shelf.Bits.{mod-below}
 use Rattle.std.proofs.shelf.Tests.{both-ways, cases-bool, cases-lt}
 use Rattle.codes.specs.declared.fault.Cause.{Cause}
@@ -19,6 +19,10 @@ use Rattle.codes.specs.Interface.{in-service, word-fits, message-fits, in-reac
 use Rattle.codes.specs.Meaning.{Meaning, Lawful, One, Within, Beyond, Carries, message}
 use Rattle.codes.proofs.Faults.{Decided, one-outcome}
 use Rattle.codes.proofs.Reach.{one-within, within-beyond, within-or-beyond, same-message}
+
+pub when-from : (b : Bool) {P Q : Type 0} → (b ≡ true → P) → (b ≡ false → Q) → When b P Q
+when-from true p q = p refl
+when-from false p q = q refl
 
 -- the test of a width by a shift
 pub long-by-shift : (w n : ℕ) → (w / 2 ^ n ≡ 0 → ⊥) → 2 ^ n ≤ w

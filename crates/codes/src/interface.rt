@@ -1,7 +1,8 @@
 //! What every code answers, and what it owes.
 ghost use mathlib.Core.Bool.{Bool};
 ghost use mathlib.Core.Path.{_≡_};
-ghost use Prim.Native.Nat.{ℕ};
+ghost use Prim.Native.Nat.{ℕ, _^_, _<_, _≤_};
+ghost use Rattle.std.specs.Orderings.{When};
 ghost use Rattle.codes.specs.Meaning.{meaning, Lawful};
 ghost use Rattle.codes.specs.Interface.{Shaped, Encoded, Corrected, OneAnswer};
 use crate::fault::Fault;
@@ -54,10 +55,20 @@ pub trait Code {
         ensures { λ r. ⌜ Corrected (meaning n k t codeword serves (now (self .entry))) word r ⌝ };
 }
 
+/// Whether a number has at most so many bits.
+pub fn fits_in(number: u64, bits: u32) -> bool
+    ensures { λ r. ⌜ When r (number < 2 ^ bits) (2 ^ bits ≤ number) ⌝ }
+{
+    bits >= 64 || number >> bits == 0
+}
+
+/// The calls of a code: shape, encode and correct.
+const CALLS: usize = 3;
+
 /// How many calls a code has. What a lawful code means leaves exactly one answer to each, whatever the code is made of.
 pub fn calls_with_one_answer() -> usize
     ensures value { λ r. ⌜ r ≡ 3 ⌝ }
     ensures laws { λ _. ⌜ OneAnswer ⌝ }
 {
-    3
+    CALLS
 }

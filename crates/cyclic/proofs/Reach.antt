@@ -13,6 +13,7 @@ use Rattle.std.proofs.shelf.Tests.{cases-lt}
 use Rattle.codes.specs.Interface.{Corrects}
 use Rattle.codes.specs.Meaning.{Beyond, distance}
 use Rattle.cyclic.specs.Generator.{Numbers, code-of, parity-bits, syndrome, Codeword}
+use Rattle.cyclic.specs.Code.{correction}
 use Rattle.cyclic.specs.Search.{Pattern}
 use Rattle.cyclic.proofs.Linear.{remainder-small, remainder-xor, remainder-shift, remainder-cycle, remainder-multiple, multiple-remainder, xor-cancel}
 use Rattle.cyclic.proofs.Rotation.{ones-parts, rotate-lt, rotate-ones, rotate-remainder}
@@ -23,7 +24,7 @@ use Rattle.cyclic.proofs.Turns.{shifts}
 
 module _ (c : Numbers) (f : Holds c) where
   -- a pattern of the rotated syndrome, rotated back
-  pub back : (s e : ℕ) → s < 2 ^ parity-bits c → Pattern c (c .t) (syndrome c (s * 2 ^ parity-bits c)) e
+  back : (s e : ℕ) → s < 2 ^ parity-bits c → Pattern c (c .t) (syndrome c (s * 2 ^ parity-bits c)) e
       → Pattern c (c .t) s (rotate (c .k) (parity-bits c) e)
   back s e h p =
       let r = parity-bits c in
@@ -39,7 +40,7 @@ module _ (c : Numbers) (f : Holds c) where
       }
 
   -- a pattern, rotated with its syndrome
-  pub onward : (s e : ℕ) → s < 2 ^ parity-bits c → Pattern c (c .t) s e
+  onward : (s e : ℕ) → s < 2 ^ parity-bits c → Pattern c (c .t) s e
       → Pattern c (c .t) (syndrome c (s * 2 ^ parity-bits c)) (rotate (parity-bits c) (c .k) e)
   onward s e h p =
       let r = parity-bits c in
@@ -83,14 +84,26 @@ module _ (c : Numbers) (f : Holds c) where
   pub as-message : (s : ℕ) → s < 2 ^ parity-bits c → s < 2 ^ c .k
   as-message s h = lt-of-lt-of-le h (pow-mono (omega arith))
 
-  pub rotated-is : (s x : ℕ) → s < 2 ^ parity-bits c → x ≡ syndrome c (s * 2 ^ parity-bits c % 2 ^ 64)
+  rotated-is : (s x : ℕ) → s < 2 ^ parity-bits c → x ≡ syndrome c (s * 2 ^ parity-bits c % 2 ^ 64)
       → x ≡ syndrome c (s * 2 ^ parity-bits c)
   rotated-is s x h e = e ∙ ap (syndrome c) (shifts c f s (as-message s h))
+
+  -- the same of the syndrome that the search is run on
+  pub back-from : (s e x : ℕ) → s < 2 ^ parity-bits c → x ≡ syndrome c (s * 2 ^ parity-bits c % 2 ^ 64) → Pattern c (c .t) x e
+      → Pattern c (c .t) s (rotate (c .k) (parity-bits c) e)
+  back-from s e x h is p = back s e h (subst (λ (y : ℕ). Pattern c (c .t) y e) (rotated-is s x h is) p)
+
+  pub none-from : (s x : ℕ) → s < 2 ^ parity-bits c → x ≡ syndrome c (s * 2 ^ parity-bits c % 2 ^ 64)
+      → ((e : ℕ) → Pattern c (c .t) s e → ones (e / 2 ^ parity-bits c) ≤ 2 → ⊥)
+      → ((e : ℕ) → Pattern c (c .t) x e → ones (e / 2 ^ parity-bits c) ≤ 2 → ⊥)
+      → (e : ℕ) → Pattern c (c .t) s e → ⊥
+  none-from s x h is here rotated =
+      none-either-way s h here (subst (λ (y : ℕ). (e : ℕ) → Pattern c (c .t) y e → ones (e / 2 ^ parity-bits c) ≤ 2 → ⊥) (rotated-is s x h is) rotated)
 
   -- ---- words
 
   pub found : (w e : ℕ) → w < 2 ^ c .n → Pattern c (c .t) (syndrome c w) e
-      → Corrects (code-of c) w (record { codeword = bitXor w e; message = bitXor w e / 2 ^ parity-bits c; pattern = e })
+      → Corrects (code-of c) w (correction c w e)
   found w e h p = record { within = (codeword-every c f (bitXor w e) word, near); carried = refl; flips = sym (xor-cancel w e) }
     where
       word : Codeword c (bitXor w e)

@@ -81,7 +81,7 @@ fn q41_words() -> Result<(), Fail> {
 fn q41_flips_about_bit_20() -> Result<(), Fail> {
     let code = Cyclic::q41();
     corrects(&code, 1 << 20 | 1 << 21 | 1 << 40 | 1 << 19, 0, 1 << 20 | 1 << 21 | 1 << 40 | 1 << 19)?;
-    refuses(&code, 0x1f, Cause::BeyondReach)
+    refuses(&code, 1 << 37 | 1 << 20 | 1 << 11 | 1 << 3 | 1, Cause::BeyondReach)
 }
 
 #[test]

@@ -10,11 +10,11 @@ add-one c =
     omega (
       arith,
       difference-ones (numbers (self .generator)) (facts (self .generator)) (self .rows) (rows-of self) (c .args .syndrome) (c .loop-i .i) (c .pre)
-          (c .loop-i-test .taken),
+          (omega arith),
     )
 
 pub returns-then-one-code : need.returns-then-one-code
 returns-then-one-code c =
     let self = c .args .self .now in
     one-flip (numbers (self .generator)) (facts (self .generator)) (self .rows) (rows-of self) (c .args .syndrome) (c .loop-i .i) (c .pre)
-    (c .loop-i-test .taken) (c .if-one-code .taken)
+    (omega arith) (omega arith)

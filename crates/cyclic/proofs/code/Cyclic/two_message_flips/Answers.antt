@@ -12,12 +12,12 @@ add-two c =
     omega (
       arith,
       difference-ones code (facts (self .generator)) (self .rows) (rows-of self) (bitXor (c .args .syndrome) (entry (self .rows) (c .pairs .i))) (c .loop-j .j)
-          (difference-lt code (facts (self .generator)) (self .rows) (rows-of self) (c .args .syndrome) (c .pairs .i) (c .pre) (c .pairs-test .taken))
-          (c .loop-j-test .taken),
+          (difference-lt code (facts (self .generator)) (self .rows) (rows-of self) (c .args .syndrome) (c .pairs .i) (c .pre) (omega arith))
+          (omega arith),
     )
 
 pub returns-then-two-code : need.returns-then-two-code
 returns-then-two-code c =
     let self = c .args .self .now in
     two-flips (numbers (self .generator)) (facts (self .generator)) (self .rows) (rows-of self) (c .args .syndrome) (c .pairs .i) (c .loop-j .j) (c .pre)
-    (c .pairs-test .taken) (c .loop-j-test .taken) (c .if-two-code .taken)
+    (omega arith) (omega arith) (omega arith)
