@@ -58,19 +58,23 @@ abbrev correction-of : ℕ → ℕ → ℕ → Correction
 correction-of v a e = record { codeword = v; message = a; pattern = e }
 
 one-shape : (m : Meaning) → One (Shapes m)
-one-shape m =
-    (shape-of (m .n) (m .k) (m .t), record { length = refl; bits = refl; reach = refl },
-    λ s p. ap (λ (x : ℕ). shape-of x (s .«message_bits») (s .reach)) (p .length) ∙ ap (λ (x : ℕ). shape-of (m .n) x (s .reach)) (p .bits)
-    ∙ ap (shape-of (m .n) (m .k)) (p .reach))
+one-shape m = (
+  shape-of (m .n) (m .k) (m .t),
+  record { length = refl; bits = refl; reach = refl },
+  λ s p. ap (λ (x : ℕ). shape-of x (s .«message_bits») (s .reach)) (p .length) ∙ ap (λ (x : ℕ). shape-of (m .n) x (s .reach)) (p .bits)
+      ∙ ap (shape-of (m .n) (m .k)) (p .reach),
+)
 
 one-correction : {m : Meaning} → Lawful m → (w v : ℕ) → Within m w v → One (Corrects m w)
-one-correction {m} law w v near =
-    (correction-of v (message m v) (bitXor w v), record { within = near; carried = refl; flips = refl },
-    λ a p.
-    let same : a .codeword ≡ v = one-within law w (a .codeword) v (p .within) near in
-    ap (λ (x : ℕ). correction-of x (a .message) (a .pattern)) same
-    ∙ ap (λ (x : ℕ). correction-of v x (a .pattern)) (p .carried ∙ ap (message m) same)
-    ∙ ap (correction-of v (message m v)) (p .flips ∙ ap (bitXor w) same))
+one-correction {m} law w v near = (
+  correction-of v (message m v) (bitXor w v),
+  record { within = near; carried = refl; flips = refl },
+  λ a p.
+      let same : a .codeword ≡ v = one-within law w (a .codeword) v (p .within) near in
+      ap (λ (x : ℕ). correction-of x (a .message) (a .pattern)) same
+      ∙ ap (λ (x : ℕ). correction-of v x (a .pattern)) (p .carried ∙ ap (message m) same)
+      ∙ ap (correction-of v (message m v)) (p .flips ∙ ap (bitXor w) same),
+)
 
 pub one-answer : OneAnswer
 one-answer = record {

@@ -2,3 +2,4 @@ pub mod Bounded
 pub mod Fault
 pub mod Meaning
 pub mod Interface
+pub mod Slots

@@ -55,20 +55,34 @@ pub trait Code {
         ensures { λ r. ⌜ Corrected (meaning n k t codeword serves (now (self .entry))) word r ⌝ };
 }
 
+/// What a number has above its lowest bits.
+fn high_bits(number: u64, bits: u32) -> u64
+    ensures none { λ r. ⌜ (r ≡ 0 → number < 2 ^ bits) ⌝ }
+    ensures some { λ r. ⌜ (0 < r → 2 ^ bits ≤ number) ⌝ }
+{
+    if bits >= 64 { 0 } else { number >> bits }
+}
+
 /// Whether a number has at most so many bits.
 pub fn fits_in(number: u64, bits: u32) -> bool
     ensures { λ r. ⌜ When r (number < 2 ^ bits) (2 ^ bits ≤ number) ⌝ }
 {
-    bits >= 64 || number >> bits == 0
+    high_bits(number, bits) == 0
 }
+
+/// What a lawful code means leaves exactly one answer to each call, whatever the code is made of.
+fn one_answer()
+    ensures { λ _. ⌜ OneAnswer ⌝ }
+{}
 
 /// The calls of a code: shape, encode and correct.
 const CALLS: usize = 3;
 
-/// How many calls a code has. What a lawful code means leaves exactly one answer to each, whatever the code is made of.
+/// How many calls a code has. Each has exactly one answer that the contracts leave it.
 pub fn calls_with_one_answer() -> usize
     ensures value { λ r. ⌜ r ≡ 3 ⌝ }
     ensures laws { λ _. ⌜ OneAnswer ⌝ }
 {
+    one_answer();
     CALLS
 }

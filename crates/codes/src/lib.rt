@@ -1,3 +1,4 @@
-//! What a code is, what its calls answer, and why they refuse.
+//! What a code is, what its calls answer, why they refuse, and lists of words.
 pub mod fault;
 pub mod interface;
+pub mod slots;

@@ -1,8 +1,12 @@
-//! Two cars hear one word: one corrects it, and one refuses it.
+//! Cars that hear one word: one corrects it, one refuses it, and one has a parity bit more to go by.
 use codes::fault::Fault;
 use codes::interface::Code;
 use cyclic::Cyclic;
 use cyclic::CyclicCode;
+use layers::parity::Parity;
+use layers::parity::ParityCode;
+use layers::shortened::Shortened;
+use layers::shortened::ShortenedCode;
 use std::error::AnyError;
 
 const MESSAGE: u64 = 0x1234f;
@@ -21,30 +25,55 @@ fn refused(rt: &impl Print, fault: Fault) -> Result<(), AnyError> {
     Ok(())
 }
 
-fn hear(rt: &impl Print, car: &str, code: &Cyclic, word: u64) -> Result<(), AnyError> {
+fn hear<C: Code>(rt: &impl Print, car: &str, code: &C, word: u64) -> Result<(), AnyError> {
     println!(rt, "{car} car hears {word:x}")?;
     match code.correct(word) {
         Ok(found) => {
             let message = found.message;
             let pattern = found.pattern;
             let flips = pattern.count_ones();
-            println!(rt, "  corrected: message {message:x}, pattern {pattern:x}, flips {flips}")?;
+            println!(
+                rt,
+                "  corrected: message {message:x}, pattern {pattern:x}, flips {flips}"
+            )?;
             Ok(())
         }
         Err(fault) => refused(rt, fault),
     }
 }
 
-fn run(rt: &impl Print) -> Result<(), AnyError> {
+/// The same word over one code, heard by two cars.
+fn two_cars(rt: &impl Print) -> Result<(), AnyError> {
     let code = Cyclic::q41();
     match code.encode(MESSAGE) {
         Ok(codeword) => {
-            println!(rt, "message {MESSAGE:x} goes out as {codeword:x}")?;
+            println!(rt, "Q41: message {MESSAGE:x} goes out as {codeword:x}")?;
             hear(rt, "hotel", &code, codeword ^ HOTEL)?;
             hear(rt, "office", &code, codeword ^ OFFICE)
         }
         Err(fault) => refused(rt, fault),
     }
+}
+
+/// A pile of layers: Q41 without its five highest message bits, and with a parity bit.
+fn pile(rt: &impl Print) -> Result<(), AnyError> {
+    let code = Parity::over(Shortened::over(Cyclic::q41(), 5));
+    match code.encode(0x1234) {
+        Ok(codeword) => {
+            println!(
+                rt,
+                "Q41 shortened by 5, with parity: message 1234 goes out as {codeword:x}"
+            )?;
+            hear(rt, "service", &code, codeword ^ 0xf0)?;
+            hear(rt, "service", &code, codeword ^ 0xf1)
+        }
+        Err(fault) => refused(rt, fault),
+    }
+}
+
+fn run(rt: &impl Print) -> Result<(), AnyError> {
+    two_cars(rt)?;
+    pile(rt)
 }
 
 fn main(rt: LibcRuntime) -> Result<(), AnyError> {

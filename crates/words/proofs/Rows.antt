@@ -1,4 +1,4 @@
--- The rows of the table, each from a computed test, and the table.
+-- Rows over the codes of generators, each from a computed test.
 use mathlib.Core.Path.{_≡_, refl, sym, subst, _∙_}
 use mathlib.Core.Bool.{Bool, _&&_}
 use mathlib.Core.Logic.{inl, inr}
@@ -11,35 +11,33 @@ use Rattle.codes.specs.declared.fault.Cause.the-variants.{BeyondReach}
 use Rattle.codes.specs.declared.fault.Layer.the-variants.{Word}
 use Rattle.codes.specs.Fault.{fault}
 use Rattle.codes.specs.Interface.{Encoded, Corrects}
-use Rattle.cyclic.specs.Polynomial.{horner-in, horner, scale, times-x, remainder}
 use Rattle.cyclic.specs.Sound.{weight, spans}
-use Rattle.cyclic.specs.Generator.{Numbers, code-of, g23, q31, q41, parity-bits, syndrome}
+use Rattle.cyclic.specs.Generator.{Numbers, code-of, parity-bits, syndrome}
 use Rattle.cyclic.specs.Search.{Pattern}
 use Rattle.cyclic.proofs.Codewords.{encoded}
 use Rattle.cyclic.proofs.Facts.{Holds}
 use Rattle.cyclic.proofs.Reach.{found, none-found, none-either-way}
 use Rattle.cyclic.proofs.Search.{few-none}
 use Rattle.cyclic.proofs.Span.{both, weight-ones, spans-heavy}
-use Rattle.cyclic.proofs.Three.{g23-holds, q31-holds, q41-holds}
 use Rattle.cyclic.proofs.Turns.{systematic, syndrome-lt}
-use Rattle.words.specs.Words.{encodes, corrects, refuses, Stands, Stand, words}
+use Rattle.words.specs.Words.{encodes, corrects, refuses, Stands}
 
 module _ (c : Numbers) (f : Holds c) where
-  encoding : ℕ → ℕ → Bool
+  unfoldable pub encoding : ℕ → ℕ → Bool
   encoding a v = ltb a (2 ^ c .k) && eqb v (systematic c f a)
 
-  encodes-row : (a v : ℕ) → T (encoding a v) → Stands (encodes (code-of c) a v)
+  pub encodes-row : (a v : ℕ) → T (encoding a v) → Stands (encodes (code-of c) a v)
   unfolding encoding
   encodes-row a v h =
       let parts = both (ltb a (2 ^ c .k)) _ h in
       let short = ltb→lt a (2 ^ c .k) (parts .0) in
       subst (λ (x : ℕ). Encoded (code-of c) a (Ok x)) (sym (eqb→eq v (systematic c f a) (parts .1))) ((refl, (short, tt)), encoded c f a short)
 
-  correcting : ℕ → ℕ → ℕ → Bool
+  unfoldable pub correcting : ℕ → ℕ → ℕ → Bool
   correcting w a e =
       ltb w (2 ^ c .n) && (ltb e (2 ^ c .n) && (eqb (syndrome c e) (syndrome c w) && (leb (weight e) (c .t) && eqb a (bitXor w e / 2 ^ parity-bits c))))
 
-  corrects-row : (w a e : ℕ) → T (correcting w a e) → Stands (corrects (code-of c) w a e)
+  pub corrects-row : (w a e : ℕ) → T (correcting w a e) → Stands (corrects (code-of c) w a e)
   unfolding correcting
   corrects-row w a e h0 =
       let h1 = both (ltb w (2 ^ c .n)) _ h0 in
@@ -59,7 +57,7 @@ module _ (c : Numbers) (f : Holds c) where
       )
 
   -- no pattern of this syndrome has at most two flips in message bits
-  alone : ℕ → Bool
+  unfoldable pub alone : ℕ → Bool
   alone s = ltb (c .t) (weight s) && spans (parity-bits c) (c .generator) (c .k) 2 (suc (c .t)) s (syndrome c (2 ^ parity-bits c))
 
   alone-none : (s : ℕ) → T (alone s) → (e : ℕ) → Pattern c (c .t) s e → ones (e / 2 ^ parity-bits c) ≤ 2 → ⊥
@@ -69,10 +67,10 @@ module _ (c : Numbers) (f : Holds c) where
       few-none c f s (subst (λ (x : ℕ). c .t < x) (weight-ones s) (ltb→lt (c .t) (weight s) (a .0)))
       (spans-heavy (parity-bits c) (c .generator) (c .k) 2 (suc (c .t)) (parity-bits c) s (syndrome c (2 ^ parity-bits c)) refl (a .1))
 
-  refusing : ℕ → Bool
+  unfoldable pub refusing : ℕ → Bool
   refusing w = ltb w (2 ^ c .n) && (alone (syndrome c w) && alone (syndrome c (syndrome c w * 2 ^ parity-bits c)))
 
-  refuses-row : (w : ℕ) → T (refusing w) → Stands (refuses (code-of c) w 4)
+  pub refuses-row : (w : ℕ) → T (refusing w) → Stands (refuses (code-of c) w 4)
   unfolding refusing
   refuses-row w h0 =
       let h1 = both (ltb w (2 ^ c .n)) _ h0 in
@@ -82,13 +80,3 @@ module _ (c : Numbers) (f : Holds c) where
       none-found c f w short
       (none-either-way c f (syndrome c w) (syndrome-lt c f w) (alone-none (syndrome c w) (h2 .0)) (alone-none (syndrome c (syndrome c w * 2 ^ parity-bits c)) (h2 .1))) in
       (fault BeyondReach Word 0, refl, inr (refl, inr (short, inl (beyond, (refl, refl, refl)))))
-
-pub all-stand : Stand words
-unfolding horner-in horner scale times-x remainder weight spans encoding correcting alone refusing
-all-stand = (
-  encodes-row g23 g23-holds 1 0xae3 tt,
-  (encodes-row g23 g23-holds 0xfff 0x7fffff tt,
-  (corrects-row g23 g23-holds 0xf 0x402 0x201200 tt,
-  (refuses-row q31 q31-holds 0xf tt,
-  (corrects-row q31 q31-holds 0x40006308 1 0x40008001 tt, (corrects-row q41 q41-holds 0x1b4e54 1 0xf tt, (corrects-row q41 q41-holds 0x700001 0 0x700001 tt, tt)))))),
-)

@@ -9,6 +9,8 @@ use Rattle.codes.specs.Fault.{number}
 use Rattle.codes.specs.Interface.{Encoded, Corrected}
 use Rattle.codes.specs.Meaning.{Meaning}
 use Rattle.cyclic.specs.Generator.{code-of, g23, q31, q41}
+use Rattle.layers.specs.Parity.{with-parity}
+use Rattle.layers.specs.Shortened.{shorten}
 
 pub data Row : Type 0 where
   -- a message and its codeword
@@ -31,4 +33,6 @@ Stand (row ∷ rows) = Stands row × Stand rows
 abbrev pub words : List Row
 words =
     encodes (code-of g23) 1 0xae3 ∷ encodes (code-of g23) 0xfff 0x7fffff ∷ corrects (code-of g23) 0xf 0x402 0x201200 ∷ refuses (code-of q31) 0xf 4
-    ∷ corrects (code-of q31) 0x40006308 1 0x40008001 ∷ corrects (code-of q41) 0x1b4e54 1 0xf ∷ corrects (code-of q41) 0x700001 0 0x700001 ∷ []
+    ∷ corrects (code-of q31) 0x40006308 1 0x40008001 ∷ corrects (code-of q41) 0x1b4e54 1 0xf ∷ corrects (code-of q41) 0x700001 0 0x700001
+    ∷ encodes (with-parity (code-of g23)) 1 0x15c7 ∷ refuses (with-parity (code-of g23)) 0x1e 4 ∷ corrects (with-parity (code-of g23)) 0x1f 0x402 0x402400
+    ∷ corrects (shorten (code-of g23) 1) 0xf 0x402 0x201200 ∷ refuses (shorten (code-of g23) 2) 0xf 4 ∷ []

@@ -3,7 +3,7 @@ ghost use mathlib.Core.Path.{_≡_};
 ghost use lib.ListN.{length};
 ghost use Rattle.words.specs.Words.{Stand, words};
 
-const WORDS: usize = 7;
+const WORDS: usize = 12;
 
 /// How many words are in the table that is proved.
 pub fn checked_words() -> usize
@@ -12,7 +12,6 @@ pub fn checked_words() -> usize
 {
     WORDS
 }
-
 
 #[cfg(test)]
 mod tests;

@@ -1,5 +1,5 @@
 use mathlib.Core.Path.{refl}
-use Rattle.words.proofs.Rows.{all-stand}
+use Rattle.words.proofs.Table.{all-stand}
 use Rattle.words.proofs.checked_words.Needs as need
 
 pub returns : need.returns

@@ -1,0 +1,4 @@
+pub mod ParityLaws
+pub mod ParityCalls
+pub mod ShortenedLaws
+pub mod ShortenedCalls
