@@ -80,3 +80,8 @@ Refused (c ∷ cs) f = (c .fails × Reports c f) ⊎ (c .passes × Refused cs f)
 abbrev pub Outcome : {A : Type 0} → List Test → (A → Type 0) → Result A Fault → Type 0
 Outcome tests P (Ok a) = Passed tests × P a
 Outcome tests P (Err f) = Refused tests f
+
+-- The same of a call on a state: its answer speaks of the state after it, and a refusal leaves the state as it was.
+abbrev pub Transition : {A S : Type 0} → List Test → S → (A → S → Type 0) → Result A Fault → S → Type 0
+Transition tests before P (Ok a) after = Passed tests × P a after
+Transition tests before P (Err f) after = Refused tests f × (after ≡ before)

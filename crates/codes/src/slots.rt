@@ -54,10 +54,8 @@ fn filled<C: Code>(code: &C, slot: Slot) -> Slot
             pattern: found.pattern,
         },
         Err(fault) => Slot {
-            word,
             verdict: Some(fault.cause),
-            message: 0,
-            pattern: 0,
+            ..Slot::new(word)
         },
     }
 }
