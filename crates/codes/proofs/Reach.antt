@@ -13,7 +13,7 @@ use Rattle.codes.proofs.Bounds.{below-some, below-any}
 use Rattle.codes.proofs.Distance.{triangle, distance-comm}
 
 -- whether a codeword is within reach of the word `w`
-reaching : Meaning → ℕ → ℕ → Bool
+abbrev pub reaching : Meaning → ℕ → ℕ → Bool
 reaching m w v = m .codeword v && leb (distance w v) (m .t)
 
 module _ {m : Meaning} (law : Lawful m) where
@@ -28,21 +28,25 @@ module _ {m : Meaning} (law : Lawful m) where
   pub within-beyond : (w v : ℕ) → Within m w v → Beyond m w → ⊥
   within-beyond w v p far = omega (arith, p, far v (p .0))
 
-  -- there is one in reach, or there is none
-  pub within-or-beyond : (w : ℕ) → ((v : ℕ) × Within m w v) ⊎ Beyond m w
-  unfolding reaching
-  within-or-beyond w =
-      ⊎-elim
-      (λ e.
+  -- the search for a codeword within reach finds one exactly where there is one
+  pub reaching-some : (w : ℕ) → any-below (reaching m w) (2 ^ m .n) ≡ true → (v : ℕ) × Within m w v
+  reaching-some w e =
       let v = below-some (reaching m w) (2 ^ m .n) e in
       let h = and-parts (m .codeword (v .0)) (leb (distance w (v .0)) (m .t)) (v .2) in
-      inl (v .0, (h .0, leb-true (distance w (v .0)) (m .t) (h .1))))
-      (λ e. inr (λ v h.
-      ⊎-elim (λ far. far)
-      (λ near. absurd (both-ways (any-below (reaching m w) (2 ^ m .n)) e
-      (below-any (reaching m w) (2 ^ m .n) v (law .below v h) (and-from (m .codeword v) (leb (distance w v) (m .t)) h (le-leb (distance w v) (m .t) near)))))
-      (cases-lt (m .t) (distance w v))))
-      (cases-bool (any-below (reaching m w) (2 ^ m .n)))
+      (v .0, (h .0, leb-true (distance w (v .0)) (m .t) (h .1)))
+
+  pub reaching-found : (w v : ℕ) → Within m w v → any-below (reaching m w) (2 ^ m .n) ≡ true
+  reaching-found w v near =
+      below-any (reaching m w) (2 ^ m .n) v (law .below v (near .0))
+      (and-from (m .codeword v) (leb (distance w v) (m .t)) (near .0) (le-leb (distance w v) (m .t) (near .1)))
+
+  pub reaching-none : (w : ℕ) → any-below (reaching m w) (2 ^ m .n) ≡ false → Beyond m w
+  reaching-none w e v h =
+      ⊎-elim (λ far. far) (λ near. absurd (both-ways (any-below (reaching m w) (2 ^ m .n)) e (reaching-found w v (h, near)))) (cases-lt (m .t) (distance w v))
+
+  -- there is one in reach, or there is none
+  pub within-or-beyond : (w : ℕ) → ((v : ℕ) × Within m w v) ⊎ Beyond m w
+  within-or-beyond w = ⊎-elim (λ e. inl (reaching-some w e)) (λ e. inr (reaching-none w e)) (cases-bool (any-below (reaching m w) (2 ^ m .n)))
 
   -- the message of a codeword is below 2 ^ k
   pub message-lt : (v : ℕ) → m .codeword v ≡ true → message m v < 2 ^ m .k
