@@ -78,10 +78,10 @@ one-correction {m} law w v near = (
 
 pub one-answer : OneAnswer
 one-answer = record {
-  shape = λ m law. one-outcome (Shapes m) (in-service m 0 ∷ []) (service-decided law 0, tt) (λ _. one-shape m);
+  shape = λ m law. one-outcome (Shapes m) (in-service m 0 ∷ []) (service-decided law 0, λ _. tt) (λ _. one-shape m);
   encode = λ m law a.
-      one-outcome (Carries m a) (in-service m 0 ∷ message-fits m a ∷ []) (service-decided law 0, (message-decided law a, tt)) (λ p. law .encodes a (p .1 .0));
+      one-outcome (Carries m a) (in-service m 0 ∷ message-fits m a ∷ []) (service-decided law 0, λ _. (message-decided law a, λ _. tt)) (λ p. law .encodes a (p .1 .0));
   correct = λ m law w.
       one-outcome (Corrects m w) (in-service m 0 ∷ word-fits m w 0 ∷ in-reach m w ∷ [])
-      (service-decided law 0, (word-decided law w 0, (reach-decided law w, tt))) (λ p. one-correction law w (p .1 .1 .0 .0) (p .1 .1 .0 .1));
+      (service-decided law 0, λ _. (word-decided law w 0, λ _. (reach-decided law w, λ _. tt))) (λ p. one-correction law w (p .1 .1 .0 .0) (p .1 .1 .0 .1));
 }

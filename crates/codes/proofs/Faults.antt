@@ -11,7 +11,7 @@ use Rattle.codes.specs.declared.fault.Cause.the-variants.{OutOfService, WordTo
 use Rattle.codes.specs.declared.fault.Layer.{Layer}
 use Rattle.codes.specs.declared.fault.Layer.the-variants.{Word, Report, Table}
 use Rattle.codes.specs.declared.fault.Fault.{Fault}
-use Rattle.codes.specs.Fault.{number, letter, fault, Test, Reports, Passed, Refused, Outcome}
+use Rattle.codes.specs.Fault.{number, letter, fault, Test, Reports, Passed, Refused, Outcome, Transition}
 use Rattle.codes.specs.Meaning.{One}
 
 -- no two cases have the same number
@@ -75,9 +75,10 @@ pub record Decided (c : Test) : Type 0 where
   pub either : c .passes ⊎ c .fails
   pub not-both : c .passes → c .fails → ⊥
 
+-- each test is decided where those before it pass
 abbrev pub AllDecided : List Test → Type 0
 AllDecided [] = Unit {0}
-AllDecided (c ∷ cs) = Decided c × AllDecided cs
+AllDecided (c ∷ cs) = Decided c × (c .passes → AllDecided cs)
 
 module _ {A : Type 0} (P : A → Type 0) where
   one-answered : One P → One (Outcome [] P)
@@ -113,8 +114,29 @@ module _ {A : Type 0} (P : A → Type 0) where
   pub one-outcome : (cs : List Test) → AllDecided cs → (Passed cs → One P) → One (Outcome cs P)
   one-outcome [] so one = one-answered (one tt)
   one-outcome (c ∷ cs) so one =
-      ⊎-elim (λ h. one-passed c cs (so .0) h (one-outcome cs (so .1) (λ rest. one (h, rest)))) (λ h. one-refused c cs (so .0) h) (so .0 .either)
+      ⊎-elim (λ h. one-passed c cs (so .0) h (one-outcome cs (so .1 h) (λ rest. one (h, rest)))) (λ h. one-refused c cs (so .0) h) (so .0 .either)
 
 -- a fault that was made of these parts reports them
 pub reported : (c : Cause) (l : Layer) (p : ℕ) (f : Fault) → f ≡ fault c l p → (number (f .cause) ≡ number c) × (letter (f .layer) ≡ letter l) × (f .place ≡ p)
 reported c l p f e = (ap (λ (x : Fault). number (x .cause)) e, ap (λ (x : Fault). letter (x .layer)) e, ap (λ (x : Fault). x .place) e)
+
+module _ {A S : Type 0} (before : S) (P : A → S → Type 0) where
+  -- an outcome over answer and state, taken apart: a refusal leaves the state before
+  parted : Result (A × S) Fault → Result A Fault × S
+  parted (Ok x) = (Ok (x .0), x .1)
+  parted (Err f) = (Err f, before)
+
+  -- the same of a call on a state: one answer, and one state after it
+  pub one-transition : (cs : List Test) → AllDecided cs → (Passed cs → One {A = A × S} (λ x. P (x .0) (x .1))) → One {A = Result A Fault × S} (λ x. Transition cs before P (x .0) (x .1))
+  unfolding parted
+  one-transition cs so one =
+      let out = one-outcome (λ (x : A × S). P (x .0) (x .1)) cs so one in
+      (parted (out .0), holds (out .0) (out .1), λ x h. only out (x .0) (x .1) h)
+    where
+      holds : (r : Result (A × S) Fault) → Outcome cs (λ (x : A × S). P (x .0) (x .1)) r → Transition cs before P (parted r .0) (parted r .1)
+      holds (Ok x) h = h
+      holds (Err f) h = (h, refl)
+
+      only : (out : One (Outcome cs (λ (x : A × S). P (x .0) (x .1)))) (r : Result A Fault) (s : S) → Transition cs before P r s → (r, s) ≡ parted (out .0)
+      only out (Ok a) s h = ap parted (out .2 (Ok (a, s)) h)
+      only out (Err f) s h = ap (λ (z : S). (Err f, z)) (h .1) ∙ ap parted (out .2 (Err f) (h .0))

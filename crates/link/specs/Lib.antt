@@ -1,0 +1,4 @@
+pub mod Report
+pub mod Receiver
+pub mod Sealed
+pub mod Steps

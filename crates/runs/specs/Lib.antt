@@ -1,0 +1,4 @@
+pub mod Book
+pub mod Law
+pub mod Transport
+pub mod Steps

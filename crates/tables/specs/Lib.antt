@@ -1,0 +1,4 @@
+pub mod Stream
+pub mod Sender
+pub mod Speller
+pub mod Feed
