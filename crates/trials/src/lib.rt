@@ -1,0 +1,3 @@
+//! Tests of sending, receiving, spelling and the laws, over the codes and layers there are.
+#[cfg(test)]
+mod tests;
