@@ -7,7 +7,6 @@ use Prim.Native.Nat.{ℕ, _+_, _<_}
 use native.Mathlib.Omega.{arith}
 use lib.Dec.{ltb}
 use lib.ListN.{length, getD, set}
-use Rattle.std.specs.Orderings.{When}
 use Rattle.std.proofs.shelf.Lists.{length-push, length-set, ext-getD}
 use Rattle.codes.specs.Meaning.{Meaning, Lawful, Within, Beyond, message, distance}
 use Rattle.codes.proofs.Reach.{one-within, within-beyond, same-message, reaching-some, reaching-none}
@@ -121,8 +120,3 @@ module _ {m : Meaning} (law : Lawful m) (o : Meaning) (cs ds : List Call) (ps : 
     some = reaching-some law;
     none = reaching-none law;
   }
-
--- the comparison of two values, as one of two that are equal to them
-pub compared : {R : Type 0} (f : R → List Place) (b : Bool) {x x′ y y′ : R} → x ≡ x′ → y ≡ y′ → When b (f x ≡ f y) (f x ≡ f y → ⊥) → When b (f x′ ≡ f y′) (f x′ ≡ f y′ → ⊥)
-compared {R} f b {x} {x′} {y} {y′} p q h =
-    subst (λ (z : R). When b (f x′ ≡ f z) (f x′ ≡ f z → ⊥)) q (subst (λ (z : R). When b (f z ≡ f y) (f z ≡ f y → ⊥)) p h)

@@ -2,6 +2,7 @@
 ghost use Rattle.codes.specs.Meaning.{meaning};
 ghost use Rattle.link.specs.Report.{places-of, flips-of};
 ghost use Rattle.runs.specs.Law.{Carriages, Law};
+ghost use Rattle.runs.specs.Transport.{Arrives};
 use crate::calls::Call;
 use crate::calls::Comparison;
 use crate::calls::compare;
@@ -30,6 +31,18 @@ pub struct Judgement<C, D> {
     pub second: Result<usize, Fault>,
 }
 
+/// Carries a table over its code.
+fn carry_trip<C: Code + Drop>(trip: Trip<'_, C>, buffer: &mut [u8]) -> Result<usize, Fault>
+    ensures { λ r. ⌜ Arrives (meaning n k t codeword serves (trip .entry .code)) (now (trip .entry .table)) (now (trip .entry .patterns)) (now (buffer .entry)) r (now (buffer .exit)) ⌝ }
+{
+    let Trip {
+        code,
+        table,
+        patterns,
+    } = trip;
+    carry(code, table, patterns, buffer)
+}
+
 /// Carries two tables, each over its own code and into its own buffer.
 pub fn carry_both<E: Code + Drop, F: Code + Drop>(
     first: Trip<'_, E>,
@@ -39,18 +52,8 @@ pub fn carry_both<E: Code + Drop, F: Code + Drop>(
 ) -> (Result<usize, Fault>, Result<usize, Fault>)
     ensures { λ r. ⌜ Carriages (meaning (E·Code .n) (E·Code .k) (E·Code .t) (E·Code .codeword) (E·Code .serves) (first .entry .code)) (meaning (F·Code .n) (F·Code .k) (F·Code .t) (F·Code .codeword) (F·Code .serves) (second .entry .code)) (now (first .entry .table)) (now (first .entry .patterns)) (now (buffer .entry)) (r .0) (now (buffer .exit)) (now (second .entry .table)) (now (second .entry .patterns)) (now (other .entry)) (r .1) (now (other .exit)) ⌝ }
 {
-    let Trip {
-        code,
-        table,
-        patterns,
-    } = first;
-    let one = carry(code, table, patterns, buffer);
-    let Trip {
-        code,
-        table,
-        patterns,
-    } = second;
-    let two = carry(code, table, patterns, other);
+    let one = carry_trip(first, buffer);
+    let two = carry_trip(second, other);
     (one, two)
 }
 

@@ -1,5 +1,5 @@
 use Rattle.link.specs.Report.{places-of, flips-of}
-use Rattle.runs.proofs.Comparing.{runs-from, compared}
+use Rattle.runs.proofs.Comparing.{runs-from}
 use Rattle.runs.proofs.calls.compare.Needs as need
 
 pub returns : need.returns
@@ -10,5 +10,5 @@ returns g c =
       law =
           runs-from (g .C·Code·met .lawful (c .args .one)) _ (c .args .calls .now) (c .args .others .now) (places-of one) (flips-of one) (places-of other)
           (flips-of other) (c .replay-first .ensures .places) (c .replay-second .ensures .places);
-      verdict = compared places-of (c .same-equal .result) (c .report .ensures) (c .report-2 .ensures) (c .same-equal .ensures);
+      verdict = c .equal-reports-equal .ensures;
     }
