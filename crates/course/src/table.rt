@@ -10,6 +10,7 @@ use link::receiver::Receiver;
 use link::report::Place;
 use link::sealed::Sealed;
 use runs::calls::Call;
+use runs::law::Judgement;
 use runs::law::Run;
 use runs::law::Trip;
 use runs::law::judge;
@@ -226,8 +227,8 @@ pub fn office(rt: &impl Print) -> Result<(), AnyError> {
     }
 }
 
-/// Two runs that end in the same report, and the table carried twice.
-fn both_cases(rt: &impl Print, word: u64) -> Result<(), AnyError> {
+/// What came of two runs that end in the same report, and of the table carried twice.
+fn both_cases(word: u64) -> Judgement<Cyclic, Cyclic> {
     let code = Cyclic::q41();
     let calls = [Call::Offer { word: word ^ FOUR }];
     let others = [
@@ -236,7 +237,7 @@ fn both_cases(rt: &impl Print, word: u64) -> Result<(), AnyError> {
     ];
     let mut buffer = [0; 64];
     let mut other = [0; 64];
-    let judgement = judge(
+    judge(
         Run {
             code,
             calls: &calls,
@@ -254,10 +255,13 @@ fn both_cases(rt: &impl Print, word: u64) -> Result<(), AnyError> {
         Trip {
             code,
             table: &TABLE,
-            patterns: &[FIVE; 1],
+            patterns: &[FIVE],
         },
         &mut other,
-    );
+    )
+}
+
+fn show_both(rt: &impl Print, judgement: Judgement<Cyclic, Cyclic>) -> Result<(), AnyError> {
     let equal = judgement.runs.equal;
     println!(
         rt,
@@ -275,7 +279,7 @@ fn both_cases(rt: &impl Print, word: u64) -> Result<(), AnyError> {
 
 pub fn both(rt: &impl Print) -> Result<(), AnyError> {
     match sent() {
-        Ok(words) => both_cases(rt, words[SPOILED]),
+        Ok(words) => show_both(rt, both_cases(words[SPOILED])),
         Err(fault) => refused(rt, fault),
     }
 }

@@ -73,6 +73,7 @@ pub fn compare<C: Code, D: Code>(
     others: &[Call],
 ) -> Comparison<C, D>
     ensures law { λ r. ⌜ Runs (meaning (C·Code .n) (C·Code .k) (C·Code .t) (C·Code .codeword) (C·Code .serves) one) (meaning (D·Code .n) (D·Code .k) (D·Code .t) (D·Code .codeword) (D·Code .serves) other) (now (calls .entry)) (now (others .entry)) (places-of (r .first .report)) (flips-of (r .first .report)) (places-of (r .second .report)) (flips-of (r .second .report)) ⌝ }
+    ensures codes { λ r. ⌜ (r .first .code ≡ one) × (r .second .code ≡ other) ⌝ }
     ensures verdict { λ r. ⌜ When (r .equal) (places-of (r .first .report) ≡ places-of (r .second .report)) (places-of (r .first .report) ≡ places-of (r .second .report) → ⊥) ⌝ }
 {
     let first = replay(one, calls);

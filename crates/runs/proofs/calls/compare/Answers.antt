@@ -10,5 +10,6 @@ returns g c =
       law =
           runs-from (g .C·Code·met .lawful (c .args .one)) _ (c .args .calls .now) (c .args .others .now) (places-of one) (flips-of one) (places-of other)
           (flips-of other) (c .replay-first .ensures .places) (c .replay-second .ensures .places);
+      codes = (c .replay-first .ensures .holds, c .replay-second .ensures .holds);
       verdict = c .equal-reports-equal .ensures;
     }
