@@ -56,7 +56,7 @@ impl<C: Code + Drop> Sealed<C> {
             return Err(Fault::new(Cause::NoMessageBits));
         }
         let messages = self.report.messages()?;
-        spell(&self.code, &messages[0..self.report.count()], buffer)
+        spell(&self.code, &messages[0..self.count()], buffer)
     }
 
     /// The line figure: flips in a thousand bits of the settled places.
