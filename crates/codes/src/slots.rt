@@ -41,7 +41,7 @@ impl Slot {
 
 /// The slot with its word corrected. A refused word leaves message 0 and pattern 0.
 fn filled<C: Code>(code: &C, slot: Slot) -> Slot
-    ensures { Filled (meaning n k t codeword serves code.now) slot result }
+    ensures { Filled (meaning C.n C.k C.t C.codeword C.serves code.now) slot result }
 {
     let word = slot.word;
     match code.correct(word) {
@@ -60,7 +60,7 @@ fn filled<C: Code>(code: &C, slot: Slot) -> Slot
 
 /// Corrects the word of each slot. It never refuses: each slot has a verdict of its own.
 pub fn correct_list<C: Code>(code: &C, slots: &mut [Slot])
-    ensures listed { Listed (meaning n k t codeword serves code.now) slots.old slots.new }
+    ensures listed { Listed (meaning C.n C.k C.t C.codeword C.serves code.now) slots.old slots.new }
     ensures one { OneList }
 {
     for slot in slots.iter_mut() {

@@ -1,4 +1,5 @@
 //! The two cases of the course, side by side: a word that is corrected, and a word that is refused.
+#![tactic(auto)]
 
 mod single;
 mod table;

@@ -1,4 +1,6 @@
 //! The three codes that are given by generators.
+#![tactic(auto)]
+
 pub mod code;
 pub mod generator;
 

@@ -19,7 +19,7 @@ pub struct Parity<C> {
 impl<C: Code> Parity<C> {
     /// The layer over a code.
     pub fn over(below: C) -> Parity<C>
-        ensures { parity_over (meaning n k t codeword serves) result ≡ with_parity (meaning n k t codeword serves below) }
+        ensures { parity_over (meaning C.n C.k C.t C.codeword C.serves) result ≡ with_parity (meaning C.n C.k C.t C.codeword C.serves below) }
     {
         Parity { below }
     }

@@ -20,7 +20,7 @@ pub struct Shortened<C> {
 impl<C: Code> Shortened<C> {
     /// The layer over a code.
     pub fn over(below: C, by: u32) -> Shortened<C>
-        ensures { shortened_over (meaning n k t codeword serves) result ≡ shorten (meaning n k t codeword serves below) by }
+        ensures { shortened_over (meaning C.n C.k C.t C.codeword C.serves) result ≡ shorten (meaning C.n C.k C.t C.codeword C.serves below) by }
     {
         Shortened { below, by }
     }

@@ -1,4 +1,6 @@
 //! The text of a listing: numbers as digits, the first line, commands, and replies.
+#![tactic(auto)]
+
 pub mod command;
 pub mod heading;
 mod number;

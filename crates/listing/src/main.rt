@@ -1,4 +1,6 @@
 //! The line listing: commands in on standard input, a line for each out on standard output.
+#![tactic(auto)]
+
 mod terminal;
 
 use crate::terminal::Terminal;

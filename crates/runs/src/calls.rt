@@ -20,8 +20,8 @@ pub enum Call {
 fn make<C: Code>(receiver: &mut Receiver<C>, call: Call)
     ensures same { receiver.new.code ≡ receiver.old.code }
     ensures follows { (ws : List ℕ) →
-        Demanded (meaning n k t codeword serves receiver.old.code) ws (places_of receiver.old.report) (flips_of receiver.old.report) →
-        Demanded (meaning n k t codeword serves receiver.old.code) (noted (meaning n k t codeword serves receiver.old.code) ws call) (places_of receiver.new.report) (flips_of receiver.new.report) }
+        Demanded (meaning C.n C.k C.t C.codeword C.serves receiver.old.code) ws (places_of receiver.old.report) (flips_of receiver.old.report) →
+        Demanded (meaning C.n C.k C.t C.codeword C.serves receiver.old.code) (noted (meaning C.n C.k C.t C.codeword C.serves receiver.old.code) ws call) (places_of receiver.new.report) (flips_of receiver.new.report) }
 {
     match call {
         Call::Offer { word } => {
@@ -37,8 +37,8 @@ fn make<C: Code>(receiver: &mut Receiver<C>, call: Call)
 /// A new receiver over the code, after the calls in their order.
 pub fn replay<C: Code>(code: C, calls: &[Call]) -> Receiver<C>
     ensures holds { result.code ≡ code }
-    ensures places { Demanded (meaning n k t codeword serves code) (book (meaning n k t codeword serves code) calls.now) (places_of result.report) (flips_of result.report) }
-    ensures tally { Tally (meaning n k t codeword serves code) (book (meaning n k t codeword serves code) calls.now) (settled_in (places_of result.report)) (sum (flips_of result.report)) }
+    ensures places { Demanded (meaning C.n C.k C.t C.codeword C.serves code) (book (meaning C.n C.k C.t C.codeword C.serves code) calls.now) (places_of result.report) (flips_of result.report) }
+    ensures tally { Tally (meaning C.n C.k C.t C.codeword C.serves code) (book (meaning C.n C.k C.t C.codeword C.serves code) calls.now) (settled_in (places_of result.report)) (sum (flips_of result.report)) }
 {
     let mut receiver = Receiver::new(code);
     for call in calls {

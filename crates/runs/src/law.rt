@@ -33,8 +33,8 @@ pub struct Judgement<C, D> {
 
 /// Carries a table over its code.
 fn carry_trip<C: Code + Drop>(trip: Trip<'_, C>, buffer: &mut [u8]) -> Result<usize, Fault>
-    ensures carried { Carried (meaning n k t codeword serves trip.entry.code) trip.entry.table.now trip.entry.patterns.now buffer.old result buffer.new }
-    ensures arrives { Arrives (meaning n k t codeword serves trip.entry.code) trip.entry.table.now trip.entry.patterns.now buffer.old result buffer.new }
+    ensures carried { Carried (meaning C.n C.k C.t C.codeword C.serves trip.entry.code) trip.entry.table.now trip.entry.patterns.now buffer.old result buffer.new }
+    ensures arrives { Arrives (meaning C.n C.k C.t C.codeword C.serves trip.entry.code) trip.entry.table.now trip.entry.patterns.now buffer.old result buffer.new }
 {
     let Trip {
         code,

@@ -28,7 +28,7 @@ fn offer_all<C: Code>(
 ) -> Result<(), Fault>
     requires { places_of receiver.old.report ≡ [] }
     ensures same { receiver.new.code ≡ receiver.old.code }
-    ensures heard { MatchResult result (λ _. Arriving (meaning n k t codeword serves receiver.old.code) words.now patterns.now (length words.now) (places_of receiver.new.report)) (Stopped (meaning n k t codeword serves receiver.old.code) words.now patterns.now) }
+    ensures heard { MatchResult result (λ _. Arriving (meaning C.n C.k C.t C.codeword C.serves receiver.old.code) words.now patterns.now (length words.now) (places_of receiver.new.report)) (Stopped (meaning C.n C.k C.t C.codeword C.serves receiver.old.code) words.now patterns.now) }
 {
     for i in 0..words.len() {
         receiver.offer(words[i] ^ pattern_at(patterns, i))?;
@@ -43,8 +43,8 @@ pub fn carry<C: Code + Drop>(
     patterns: &[u64],
     buffer: &mut [u8],
 ) -> Result<usize, Fault>
-    ensures carried { Carried (meaning n k t codeword serves code) table.now patterns.now buffer.old result buffer.new }
-    ensures arrives { Arrives (meaning n k t codeword serves code) table.now patterns.now buffer.old result buffer.new }
+    ensures carried { Carried (meaning C.n C.k C.t C.codeword C.serves code) table.now patterns.now buffer.old result buffer.new }
+    ensures arrives { Arrives (meaning C.n C.k C.t C.codeword C.serves code) table.now patterns.now buffer.old result buffer.new }
 {
     let mut words = [0; ROOM];
     let count = send(&code, table, &mut words)?;

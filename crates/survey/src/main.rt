@@ -1,4 +1,6 @@
 //! A survey of the codes: every answer is held to one that was found without the library.
+#![tactic(auto)]
+
 mod bits;
 mod classes;
 mod flips;

@@ -76,9 +76,9 @@ fn draw(table: &[u8], outgoing: Outgoing, width: u32) -> Drawn
 
 /// The codeword of a message that fits, of a code in service.
 fn codeword<C: Code>(code: &C, message: u64) -> u64
-    requires serving { serves code.now ≡ true }
-    requires fits { message < 2 ^ k code.now }
-    ensures { Carries (meaning n k t codeword serves code.now) message result }
+    requires serving { C.serves code.now ≡ true }
+    requires fits { message < 2 ^ C.k code.now }
+    ensures { Carries (meaning C.n C.k C.t C.codeword C.serves code.now) message result }
 {
     match code.encode(message) {
         Ok(word) => word,
@@ -104,13 +104,13 @@ fn fits(size: usize, width: u32) -> bool
 
 /// Writes the codeword of each message.
 fn write_words<C: Code>(code: &C, table: &[u8], width: u32, words: &mut [u64])
-    requires serving { serves code.now ≡ true }
-    requires width { width ≡ k code.now }
+    requires serving { C.serves code.now ≡ true }
+    requires width { width ≡ C.k code.now }
     requires some { 0 < width }
     requires wide { width ≤ 42 }
     requires short { length table.now < 65536 }
     requires room { messages_for width (length table.now) ≤ length words.old }
-    ensures { Words (meaning n k t codeword serves code.now) table.now words.old words.new }
+    ensures { Words (meaning C.n C.k C.t C.codeword C.serves code.now) table.now words.old words.new }
 {
     let mut outgoing = Outgoing {
         next: 0,
@@ -130,7 +130,7 @@ fn one_sending()
 
 /// Sends a table: writes the codeword of each of its messages, and answers how many. A refusal leaves the list as it was.
 pub fn send<C: Code>(code: &C, table: &[u8], words: &mut [u64]) -> Result<usize, Fault>
-    ensures sent { Sent (meaning n k t codeword serves code.now) table.now words.old result words.new }
+    ensures sent { Sent (meaning C.n C.k C.t C.codeword C.serves code.now) table.now words.old result words.new }
     ensures one { OneSending }
     ensures bytes { OnOk result (Bytes table.now) }
 {

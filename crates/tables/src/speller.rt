@@ -179,7 +179,7 @@ fn one_spelling()
 
 /// Spells out the table that has these messages: writes its bytes, and answers how many. A refusal leaves the buffer as it was.
 pub fn spell<C: Code>(code: &C, messages: &[u64], buffer: &mut [u8]) -> Result<usize, Fault>
-    ensures spelled { Spelled (meaning n k t codeword serves code.now) messages.now buffer.old result buffer.new }
+    ensures spelled { Spelled (meaning C.n C.k C.t C.codeword C.serves code.now) messages.now buffer.old result buffer.new }
     ensures one { OneSpelling }
 {
     one_spelling();

@@ -1,4 +1,6 @@
 //! Words whose codewords are known beforehand.
+#![tactic(auto)]
+
 ghost use Rattle.std.specs.Prelude.{◌≡◌, length};
 ghost use Rattle.words.specs.Words.{Stand, words};
 

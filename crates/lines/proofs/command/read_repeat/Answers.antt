@@ -1,20 +1,20 @@
 use Rattle.lines.proofs.Commands.{repeat_not_cut, repeat_no_place, repeat_no_word}
 use Rattle.lines.proofs.command.read_repeat.Goals as goal
 
-pub returns-in-err-digits : goal.returns-in-err-digits
-returns-in-err-digits c =
-    rw c.from-residual-in-err-digits.ensures (repeat_not_cut c.args.tail.now c.in-ok-after-space.field-0.now c.in-ok-after-space.ensures c.in-err-digits.ensures)
+pub returns-in_err-digits : goal.returns-in_err-digits
+returns-in_err-digits c =
+    rw c.from_residual-in_err-digits.ensures (repeat_not_cut c.args.tail.now c.in_ok-after_space.field-0.now c.in_ok-after_space.ensures c.in_err-digits.ensures)
 
-pub returns-in-err-place : goal.returns-in-err-place
-returns-in-err-place c =
-    let rest = c.in-ok-after-space in
-    let cut = c.in-ok-digits in
-    rw c.from-residual-in-err-place.ensures
-    (repeat_no_place c.args.tail.now rest.field-0.now rest.ensures cut.digits.now cut.rest.now cut.ensures.0 cut.ensures.1 c.in-err-place.ensures)
+pub returns-in_err-place : goal.returns-in_err-place
+returns-in_err-place c =
+    let rest = c.in_ok-after_space in
+    let cut = c.in_ok-digits in
+    rw c.from_residual-in_err-place.ensures
+    (repeat_no_place c.args.tail.now rest.field-0.now rest.ensures cut.digits.now cut.rest.now cut.ensures.0 cut.ensures.1 c.in_err-place.ensures)
 
-pub returns-in-err-word : goal.returns-in-err-word
-returns-in-err-word c =
-    let rest = c.in-ok-after-space in
-    let cut = c.in-ok-digits in
-    rw c.from-residual-in-err-word.ensures
-    (repeat_no_word c.args.tail.now rest.field-0.now rest.ensures cut.digits.now cut.rest.now cut.ensures.0 cut.ensures.1 c.in-err-word.ensures)
+pub returns-in_err-word : goal.returns-in_err-word
+returns-in_err-word c =
+    let rest = c.in_ok-after_space in
+    let cut = c.in_ok-digits in
+    rw c.from_residual-in_err-word.ensures
+    (repeat_no_word c.args.tail.now rest.field-0.now rest.ensures cut.digits.now cut.rest.now cut.ensures.0 cut.ensures.1 c.in_err-word.ensures)

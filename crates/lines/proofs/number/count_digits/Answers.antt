@@ -9,8 +9,8 @@ loop-base-init c = omega arith
 pub loop-base-smaller : goal.loop-base-smaller
 loop-base-smaller c = omega (arith, c.above-rest.ensures, above_less (base_number c.args.base) c.loop-base.rest (base_least c.args.base) c.loop-base-test.ensures)
 
-pub overflow-add-count : goal.overflow-add-count
-overflow-add-count c =
+pub overflow_add-count : goal.overflow_add-count
+overflow_add-count c =
     let b = base_number c.args.base in
     omega (arith, c.loop-base.invariant, count_word b c.args.number (base_least c.args.base) (omega arith))
 

@@ -6,4 +6,4 @@ pub returns-then-at-payload : goal.returns-then-at-payload
 returns-then-at-payload c = entry_past c.args.payload.now c.args.floor (omega arith)
 
 pub returns : goal.returns
-returns c = ap Some c.two-bytes.ensures ∙ entry_inside c.args.payload.now c.args.floor (omega arith)
+returns c = ap Some c.two_bytes.ensures ∙ entry_inside c.args.payload.now c.args.floor (omega arith)

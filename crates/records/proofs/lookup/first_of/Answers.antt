@@ -9,14 +9,14 @@ use Rattle.records.proofs.lookup.first_of.Goals.{In-Some}
 read : (c : In-Some) → ReadOn c.args.bytes.now c.loop-record.reader.at (Ok (Some c.in-Some.record)) c.next.new.self.at
 read c =
     subst (λ o. ReadOn c.args.bytes.now c.loop-record.reader.at (Ok o) c.next.new.self.at) c.in-Some.is
-    (subst (λ b. ReadOn b c.loop-record.reader.at (Ok c.in-ok-record.field-0) c.next.new.self.at) c.loop-record.invariant.0 c.in-ok-record.ensures.read)
+    (subst (λ b. ReadOn b c.loop-record.reader.at (Ok c.in_ok-record.field-0) c.next.new.self.at) c.loop-record.invariant.0 c.in_ok-record.ensures.read)
 
-pub returns-in-err-record : goal.returns-in-err-record
-returns-in-err-record c =
-    let p = err_from_is_err_and c.from-residual.result c.from-residual.ensures.1 in
+pub returns-in_err-record : goal.returns-in_err-record
+returns-in_err-record c =
+    let p = err_from_is_err_and c.from_residual.result c.from_residual.ensures.1 in
     rw (p.1, p.2)
-    (faulty_next c.args.bytes.now c.args.kind c.loop-record.reader.at c.loop-record.invariant.1 c.next.new.self.at c.in-err-record.field-0.0
-    (rw (← c.loop-record.invariant.0) c.in-err-record.ensures.read))
+    (faulty_next c.args.bytes.now c.args.kind c.loop-record.reader.at c.loop-record.invariant.1 c.next.new.self.at c.in_err-record.field-0.0
+    (rw (← c.loop-record.invariant.0) c.in_err-record.ensures.read))
 
 pub returns-then-number : goal.returns-then-number
 returns-then-number c =
@@ -41,5 +41,5 @@ loop-record-init c = (c.new-reader.ensures.bytes, rw c.new-reader.ensures.at (at
 pub returns : goal.returns
 returns c =
     none_left c.args.bytes.now c.args.kind c.loop-record.reader.at c.loop-record.invariant.1 c.next.new.self.at
-    (subst (λ o. ReadOn c.args.bytes.now c.loop-record.reader.at (Ok o) c.next.new.self.at) c.in-default.is
-    (subst (λ b. ReadOn b c.loop-record.reader.at (Ok c.in-ok-record.field-0) c.next.new.self.at) c.loop-record.invariant.0 c.in-ok-record.ensures.read))
+    (subst (λ o. ReadOn c.args.bytes.now c.loop-record.reader.at (Ok o) c.next.new.self.at) c.in_default.is
+    (subst (λ b. ReadOn b c.loop-record.reader.at (Ok c.in_ok-record.field-0) c.next.new.self.at) c.loop-record.invariant.0 c.in_ok-record.ensures.read))

@@ -8,16 +8,16 @@ pub returns-then-left-lt4 : goal.returns-then-left-lt4
 returns-then-left-lt4 c = cut_head c.args.bytes.now c.args.place c.requires c.if-left-lt4.true
 
 pub returns-then-left-size : goal.returns-then-left-size
-returns-then-left-size c = cut_payload c.args.bytes.now c.args.place c.requires (rw (← c.two-bytes.ensures, ← c.from-size.ensures) c.if-left-size.true)
+returns-then-left-size c = cut_payload c.args.bytes.now c.args.place c.requires (rw (← c.two_bytes.ensures, ← c.from-size.ensures) c.if-left-size.true)
 
-pub returns-then-has-half-entry : goal.returns-then-has-half-entry
-returns-then-has-half-entry c =
+pub returns-then-has_half_entry : goal.returns-then-has_half_entry
+returns-then-has_half_entry c =
     half_at_end c.args.bytes.now c.args.place c.requires
-    (rw (← c.two-bytes-2.ensures, ← c.two-bytes.ensures, ← c.from-size.ensures, ← c.of-kind.ensures) (sym c.if-has-half-entry.ensures))
+    (rw (← c.two_bytes-2.ensures, ← c.two_bytes.ensures, ← c.from-size.ensures, ← c.of-kind.ensures) (sym c.if-has_half_entry.ensures))
 
 pub returns : goal.returns
 returns c =
     let bytes : Bytes c.args.bytes.now = search rules in
     begins c.args.bytes.now c.args.place c.requires bytes (omega arith) (omega arith)
-    (rw (← c.two-bytes-2.ensures, ← c.two-bytes.ensures, ← c.from-size.ensures, ← c.of-kind.ensures) (sym c.if-has-half-entry.ensures))
-    _ (rw (← c.two-bytes-2.ensures) c.of-kind.ensures) refl (rw (← c.two-bytes.ensures, ← c.from-size.ensures) refl)
+    (rw (← c.two_bytes-2.ensures, ← c.two_bytes.ensures, ← c.from-size.ensures, ← c.of-kind.ensures) (sym c.if-has_half_entry.ensures))
+    _ (rw (← c.two_bytes-2.ensures) c.of-kind.ensures) refl (rw (← c.two_bytes.ensures, ← c.from-size.ensures) refl)

@@ -12,9 +12,9 @@ pub loop-i-preserved : goal.loop-i-preserved
 loop-i-preserved g c =
     let code = g.C.Code in
     let turn = c.loop-i in
-    let offered = c.in-ok-offer in (
+    let offered = c.in_ok-offer in (
       c.offer.ensures.same ∙ turn.invariant.0,
       arriving_next (meaning code.n code.k code.t code.codeword code.serves) turn.receiver.code c.args.receiver.now.code
           c.args.words.now c.args.patterns.now turn.i (places_of turn.receiver.report) (places_of c.offer.new.self.report) _
-          offered.field-0 turn.invariant.0 (ap (bit_xor (get_or c.args.words.now turn.i 0)) c.pattern-at.ensures) turn.invariant.1 offered.ensures.answer,
+          offered.field-0 turn.invariant.0 (ap (bit_xor (get_or c.args.words.now turn.i 0)) c.pattern_at.ensures) turn.invariant.1 offered.ensures.answer,
     )

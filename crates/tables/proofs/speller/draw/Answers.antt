@@ -10,6 +10,6 @@ returns c =
     let filled = c.fill-full.ensures in
     record {
       ready = drawn_in_hand filled.ready 8 c.above.ensures;
-      byte = c.lowest-byte.ensures ∙ drawn_symbol k messages full.next 8 full.feed filled.enough ∙ ap (λ (x : ℕ). x % 256) filled.same;
+      byte = c.lowest_byte.ensures ∙ drawn_symbol k messages full.next 8 full.feed filled.enough ∙ ap (λ (x : ℕ). x % 256) filled.same;
       rest = drawn_left k messages full.next 8 full.feed filled.enough c.above.ensures ∙ ap (λ (x : ℕ). x / 256) filled.same;
     }

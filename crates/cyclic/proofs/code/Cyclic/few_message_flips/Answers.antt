@@ -13,5 +13,5 @@ returns-then-syndrome-self c =
 pub returns : goal.returns
 returns c =
     let code = c.args.self.now.generator in
-    none_few (numbers code) (facts code) c.args.syndrome c.two-message-flips.result c.if-syndrome-self.false c.in-default.ensures
-    c.two-message-flips.ensures
+    none_few (numbers code) (facts code) c.args.syndrome c.two_message_flips.result c.if-syndrome-self.false c.in_default.ensures
+    c.two_message_flips.ensures

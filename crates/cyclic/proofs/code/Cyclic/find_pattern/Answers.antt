@@ -13,15 +13,15 @@ remainder-rotated-requires c =
     let h = as_message (numbers code) (facts code) s c.requires in
     subst (λ (x : ℕ). x < 2 ^ code.n) (sym (shifts (numbers code) (facts code) s h)) (shifted_lt (numbers code) (facts code) s h)
 
-pub returns-in-Some-few-message-flips : goal.returns-in-Some-few-message-flips
-returns-in-Some-few-message-flips c =
+pub returns-in-Some-few_message_flips : goal.returns-in-Some-few_message_flips
+returns-in-Some-few_message_flips c =
     let code = c.args.self.now.generator in
-    subst (Pattern (numbers code) code.t c.args.syndrome) (sym c.rotate-back.ensures)
-    (back_from (numbers code) (facts code) c.args.syndrome c.in-Some-few-message-flips.pattern c.remainder-rotated.result c.requires
-    c.remainder-rotated.ensures.value c.in-Some-few-message-flips.ensures)
+    subst (Pattern (numbers code) code.t c.args.syndrome) (sym c.rotate_back.ensures)
+    (back_from (numbers code) (facts code) c.args.syndrome c.in-Some-few_message_flips.pattern c.remainder-rotated.result c.requires
+    c.remainder-rotated.ensures.value c.in-Some-few_message_flips.ensures)
 
 pub returns-in-None : goal.returns-in-None
 returns-in-None c =
     let code = c.args.self.now.generator in
     none_from (numbers code) (facts code) c.args.syndrome c.remainder-rotated.result c.requires c.remainder-rotated.ensures.value
-    c.in-default.ensures c.in-None.ensures
+    c.in_default.ensures c.in-None.ensures

@@ -4,8 +4,8 @@ use Rattle.cyclic.specs.Facts.{facts}
 use Rattle.cyclic.proofs.Search.{rows_of, difference_ones, one_flip}
 use Rattle.cyclic.proofs.code.Cyclic.one_message_flip.Goals as goal
 
-pub overflow-add-one : goal.overflow-add-one
-overflow-add-one c =
+pub overflow_add-one : goal.overflow_add-one
+overflow_add-one c =
     let self = c.args.self.now in
     omega (
       arith,

@@ -4,6 +4,6 @@ use Rattle.cyclic.specs.Sound.{weight, spans, sound_at, sound}
 use Rattle.cyclic.proofs.generator.Generator.g23.Goals as goal
 
 -- the test of the numbers is computed
-pub invariant-of-result : goal.invariant-of-result
+pub invariant_of-result : goal.invariant_of-result
 unfolding horner_in horner scale times_x remainder weight spans sound_at sound
-invariant-of-result c = (lit≤ tt, (lit≤ tt, (lit≤ tt, (refl, tt))))
+invariant_of-result c = record { split = lit≤ tt; short = lit≤ tt; near = lit≤ tt; tested = refl }

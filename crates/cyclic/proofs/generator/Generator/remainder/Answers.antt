@@ -12,16 +12,16 @@ loop-i-init c =
     let code = c.args.self.now in
     sym (ap (remainder (code.n - code.k) code.polynomial) (div-eq_of_lt c.requires) ∙ remainder_zero (code.n - code.k) code.polynomial)
 
-pub times-x-requires : goal.times-x-requires
-times-x-requires c =
+pub times_x-requires : goal.times_x-requires
+times_x-requires c =
     let code = c.args.self.now in
     subst (λ (x : ℕ). x < 2 ^ (code.n - code.k)) (sym c.loop-i.invariant) (syndrome_lt (numbers code) (facts code) _)
 
 pub loop-i-preserved : goal.loop-i-preserved
 loop-i-preserved c =
     let code = c.args.self.now in
-    shift_in (code.n - code.k) code.polynomial c.args.word c.loop-i.i c.loop-i.remainder c.times-x.result c.loop-i-test.true
-    c.loop-i.invariant c.times-x.ensures
+    shift_in (code.n - code.k) code.polynomial c.args.word c.loop-i.i c.loop-i.remainder c.times_x.result c.loop-i-test.true
+    c.loop-i.invariant c.times_x.ensures
 
 pub returns : goal.returns
 returns c =

@@ -10,8 +10,8 @@ loop-i-init c =
     let code = c.args.self.now in
     (refl, λ k h. absurd (not-suc-le-zero h), sym (first_row (numbers code) (facts code)))
 
-pub times-x-row-requires : goal.times-x-row-requires
-times-x-row-requires c =
+pub times_x-row-requires : goal.times_x-row-requires
+times_x-row-requires c =
     let code = c.args.self.now in
     subst (λ (x : ℕ). x < 2 ^ parity_bits (numbers code)) (sym c.loop-i.invariant.2) (syndrome_lt (numbers code) (facts code) (2 ^ c.loop-i.i))
 
@@ -22,6 +22,6 @@ loop-i-preserved c =
       below_more _ _
           (λ k h. let ne : k ≢ c.loop-i.i = omega arith in rw get_or-set_other (c.loop-i.invariant.1 k h))
           (let lt : c.loop-i.i < length c.loop-i.rows = omega (arith, c.loop-i.invariant.0) in rw get_or-set_same c.loop-i.invariant.2),
-      c.times-x-row.ensures ∙ ap (times_x (parity_bits (numbers code)) code.polynomial) c.loop-i.invariant.2
+      c.times_x-row.ensures ∙ ap (times_x (parity_bits (numbers code)) code.polynomial) c.loop-i.invariant.2
           ∙ next_row (parity_bits (numbers code)) code.polynomial c.loop-i.i,
     )

@@ -5,8 +5,8 @@ use Rattle.cyclic.specs.Facts.{facts}
 use Rattle.cyclic.specs.Turns.{doubles, times_x_carry, carried_le}
 use Rattle.cyclic.proofs.generator.Generator.times_x.Goals as goal
 
-pub overflow-mul-result : goal.overflow-mul-result
-overflow-mul-result c =
+pub overflow_mul-result : goal.overflow_mul-result
+overflow_mul-result c =
     let code = c.args.self.now in
     let e = doubles (numbers code) (facts code) c.args.remainder c.requires in
     let small : code.polynomial < 2 ^ 64 = search rules in

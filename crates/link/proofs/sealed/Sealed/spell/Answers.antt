@@ -10,11 +10,11 @@ returns g c =
     let code = g.C.Code in
     let self = c.args.self.now in
     let m = meaning code.n code.k code.t code.codeword code.serves self.code in
-    let found = c.in-ok-messages in
+    let found = c.in_ok-messages in
     let count : length (places_of self.report) ≡ c.count.result - 0 = omega (arith, c.count.ensures) in
     record {
       spells =
           spelled_places m (places_of self.report) _ (found.ensures.1 ∙ ap (λ (i : ℕ). map Settled (take i found.messages)) count)
           c.args.buffer.now c.spell.result c.spell.new.buffer c.spell.ensures.spelled;
-      one = c.one-spell.ensures;
+      one = c.one_spell.ensures;
     }

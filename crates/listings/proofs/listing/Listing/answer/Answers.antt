@@ -5,11 +5,11 @@ use Rattle.listings.proofs.listing.Listing.answer.Goals as goal
 
 pub returns : goal.returns
 returns c =
-    let replied = rw (← c.reply-for.ensures) at c.carry-out.ensures.replied in
+    let replied = rw (← c.reply_for.ensures) at c.carry_out.ensures.replied in
     record {
       replied = replied;
-      same = c.carry-out.ensures.same;
+      same = c.carry_out.ensures.same;
       short =
           short_replied _ (choice_lawful c.args.self.now.receiver.code) (held_in c.args.self.now) (few_places c.args.self.now.receiver.report)
-          c.args.line.now c.reply-for.result (held_in c.carry-out.new.self) replied;
+          c.args.line.now c.reply_for.result (held_in c.carry_out.new.self) replied;
     }

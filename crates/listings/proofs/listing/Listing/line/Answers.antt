@@ -6,19 +6,19 @@ use Rattle.listings.specs.Listing.{meaning_in, held_in}
 use Rattle.listings.proofs.Writing.{written_line}
 use Rattle.listings.proofs.listing.Listing.line.Goals as goal
 
-pub returns-then-not-has-room : goal.returns-then-not-has-room
-returns-then-not-has-room c =
-    let told = reported TooShort Table 0 c.too-short.result c.too-short.ensures in
-    record { lined = (inl (c.if-not-has-room.ensures, told), refl); same = refl; grammar = c.line-laws.ensures.grammar; one = c.line-laws.ensures.one; book = c.line-laws.ensures.book }
+pub returns-then-not-has_room : goal.returns-then-not-has_room
+returns-then-not-has_room c =
+    let told = reported TooShort Table 0 c.too_short.result c.too_short.ensures in
+    record { lined = (inl (c.if-not-has_room.ensures, told), refl); same = refl; grammar = c.line_laws.ensures.grammar; one = c.line_laws.ensures.one; book = c.line_laws.ensures.book }
 
 pub returns : goal.returns
 returns c =
     record {
       lined =
           written_line (meaning_in c.args.self.now) c.args.line.now (held_in c.args.self.now) (held_in c.answer.new.self) c.answer.result
-          c.args.buffer.now c.write.result c.write.new.buffer c.answer.ensures.replied c.answer.ensures.short c.if-not-has-room.ensures c.write.ensures.written;
+          c.args.buffer.now c.write.result c.write.new.buffer c.answer.ensures.replied c.answer.ensures.short c.if-not-has_room.ensures c.write.ensures.written;
       same = c.answer.ensures.same;
-      grammar = c.line-laws.ensures.grammar;
-      one = c.line-laws.ensures.one;
-      book = c.line-laws.ensures.book;
+      grammar = c.line_laws.ensures.grammar;
+      one = c.line_laws.ensures.one;
+      book = c.line_laws.ensures.book;
     }
