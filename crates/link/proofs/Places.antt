@@ -1,6 +1,6 @@
 -- The places of a report, as slices have them.
 use Rattle.std.proofs.Common.{◌≡◌, ℕ, ◌<◌, Bool, true, false, List, [], ◌∷◌, length, Some, None, MatchBool, Option, sym, refl, ap, ◌∙◌, ap₂, inl, inr, ⊎_elim, arith, Bor}
-use Rattle.std.specs.Cmp.Lexicographic.{Same, Apart, Matches}
+use Rattle.std.specs.Cmp.Lexicographic.{pointwise, pointwise_decides}
 use Rattle.std.specs.Option.{option_map}
 use Rattle.std.specs.Slice.{IsGetResult}
 use Rattle.std.specs.List.{slice_get}
@@ -24,20 +24,8 @@ pub test_within : {X : Type 0} (xs : List X) (i : ℕ) (x : X) (o : Option X) (r
 test_within xs i x o true e h = (sym e ∙ h, nth_within xs i (sym e ∙ h))
 test_within xs i x o false e h = λ p. h (e ∙ p)
 
--- lists whose elements a test tells apart
-module _ {K : Type 0} (E : K → K → Bool → Type 0) (alike : (a b : K) → E a b true → a ≡ b) (unlike : (a b : K) → E a b false → a ≡ b → ⊥) where
-  same_lists : (xs ys : List K) → Same E xs ys → xs ≡ ys
-  same_lists [] [] h = refl
-  same_lists [] (y ∷ ys) h = absurd h
-  same_lists (x ∷ xs) [] h = absurd h
-  same_lists (x ∷ xs) (y ∷ ys) h = ap₂ (λ (z : K) (zs : List K). z ∷ zs) (alike x y h.0) (same_lists xs ys h.1)
-
-  apart_lists : (xs ys : List K) → Apart E xs ys → xs ≡ ys → ⊥
-  apart_lists [] ys h e = absurd h
-  apart_lists (x ∷ xs) [] h e = absurd h
-  apart_lists (x ∷ xs) (y ∷ ys) h e = ⊎_elim (λ here. unlike x y here (cc)) (λ rest. apart_lists xs ys rest (cc)) h
-
-  pub lists_compared : (xs ys : List K) (r : Bool) → Matches E xs ys r → MatchBool r (xs ≡ ys) (xs ≡ ys → ⊥)
-  lists_compared xs ys true h = same_lists xs ys h.1
-  lists_compared xs ys false (inl n) = λ e. n (ap length e)
-  lists_compared xs ys false (inr h) = apart_lists xs ys h
+-- a test of two lists, where the test of two elements decides whether they are equal
+module _ {K : Type 0} {E : K → K → Bool} (decides : (a b : K) → (E a b ≡ true → a ≡ b) × (a ≡ b → E a b ≡ true)) where
+  pub lists_compared : (xs ys : List K) (r : Bool) → r ≡ pointwise E xs ys → MatchBool r (xs ≡ ys) (xs ≡ ys → ⊥)
+  lists_compared xs ys true h = (pointwise_decides decides xs ys).0 (sym h)
+  lists_compared xs ys false h = λ e. cc (h, (pointwise_decides decides xs ys).1 e)
