@@ -16,17 +16,17 @@ put_number-last-requires t c =
     )
 
 -- on both ways the digits above the last stand in the buffer
-ahead : (t : ℕ) (c : After-digit-byte t) → Ahead c.args.buffer.now c.args.at (text_of (base_number c.args.base) c.args.number) (digit (c.args.number % base_number c.args.base)) c.if-is_longer.buffer c.if-is_longer.last
+ahead : (t : ℕ) (c : After-digit_byte t) → Ahead c.args.buffer.now c.args.at (text_of (base_number c.args.base) c.args.number) (digit (c.args.number % base_number c.args.base)) c.if-is_longer.buffer c.if-is_longer.last
 ahead t c =
     let b = base_number c.args.base in
     let x = c.args.number in
     let two = base_least c.args.base in
     elim c.if-is_longer.branch [
-      | then-is-longer w ↦
+      | then-is_longer w ↦
           ahead_more b x two c.args.buffer.now c.args.at c.if-is_longer.buffer c.if-is_longer.last w.if-is_longer.ensures w.above.result w.above.ensures
-          (w.buffer-is ∙ w.put_number-last.ensures.there) (w.last_is ∙ w.put_number-last.ensures.ends)
-      | else-is-longer w ↦
-          ahead_none b x two c.args.buffer.now c.args.at c.if-is_longer.buffer c.if-is_longer.last w.if-is_longer.ensures w.buffer-is w.last_is
+          (w.buffer-is ∙ w.put_number-last.ensures.there) (w.last-is ∙ w.put_number-last.ensures.ends)
+      | else-is_longer w ↦
+          ahead_none b x two c.args.buffer.now c.args.at c.if-is_longer.buffer c.if-is_longer.last w.if-is_longer.ensures w.buffer-is w.last-is
     ]
 
 pub bounds-buffer-last : goal.bounds-buffer-last
