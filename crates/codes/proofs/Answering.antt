@@ -1,18 +1,17 @@
 -- The refusals of a code, each from what its tests found, and that a lawful meaning leaves one answer.
-use Rattle.std.proofs.Common.{◌≡◌, ℕ, ◌+◌, ◌*◌, ◌/◌, ◌%◌, ◌^◌, ◌<◌, ◌≤◌, Bool, true, false, [], ◌∷◌, MatchBool, sym, refl, ap, ◌∙◌, subst, inl, inr, ⊎_elim, arith, pow_pos}
+use Rattle.std.proofs.Common.{◌≡◌, ℕ, ◌+◌, ◌*◌, ◌/◌, ◌%◌, ◌^◌, ◌<◌, ◌≤◌, Bool, true, false, [], ◌∷◌, MatchBool, refl, ap, ◌∙◌, subst, ⊎_elim, arith, pow_pos}
 use native.Mathlib.Nat.{div-eq_of_lt}
 use lib.Bits.{bit_xor}
 use lib.Pow.{split}
 use Rattle.std.proofs.lemmas.Nat.{mod_below}
 use Rattle.std.proofs.lemmas.Bool.{both_ways, cases_Bool, cases_lt}
-use Rattle.codes.specs.declared.fault.Cause.{Cause}
 use Rattle.codes.specs.declared.fault.Cause.TheVariants.{OutOfService, WordTooLong, MessageTooLong, BeyondReach}
 use Rattle.codes.specs.declared.interface.Correction.{Correction}
 use Rattle.codes.specs.declared.interface.Shape.{Shape}
-use Rattle.codes.specs.Interface.{in_service, word_fits, message_fits, in_reach, Shapes, Corrects, Shaped, Encoded, Corrected, OneAnswer}
-use Rattle.codes.specs.Meaning.{Meaning, Lawful, One, Within, Beyond, Carries, message}
+use Rattle.codes.specs.Interface.{in_service, word_fits, message_fits, in_reach, Shapes, Corrects, OneAnswer}
+use Rattle.codes.specs.Meaning.{Meaning, Lawful, One, Within, Carries, message}
 use Rattle.codes.proofs.Faults.{Decided, one_outcome}
-use Rattle.codes.proofs.Reach.{one_within, within_beyond, within_or_beyond, same_message}
+use Rattle.codes.proofs.Reach.{one_within, within_beyond, within_or_beyond}
 
 pub when_from : (b : Bool) {P Q : Type 0} → (b ≡ true → P) → (b ≡ false → Q) → MatchBool b P Q
 when_from true p q = p refl

@@ -1,6 +1,6 @@
 -- The distance of words.
-use Rattle.std.proofs.Common.{◌≡◌, ℕ, zero, suc, ◌+◌, ◌*◌, ◌/◌, ◌%◌, ◌<◌, ◌≤◌, sym, refl, ap, ◌∙◌, ap₂, arith}
-use lib.Bits.{bit_xor, bit_and, xor_shr, and_shr, xor_mod, and_mod, xor_add_and, xor_assoc, xor_comm, xor_self, xor_zero_l, xor_zero_r}
+use Rattle.std.proofs.Common.{◌≡◌, ℕ, zero, suc, ◌+◌, ◌*◌, ◌/◌, ◌%◌, ◌≤◌, sym, refl, ap, ◌∙◌, ap₂, arith}
+use lib.Bits.{bit_xor, bit_and, xor_shr, and_shr, xor_mod, and_mod, xor_add_and, xor_assoc, xor_comm, xor_self, xor_zero_l}
 use lib.Count.{ones, ones_step}
 use Rattle.codes.specs.Meaning.{distance}
 

@@ -5,7 +5,7 @@ use Rattle.codes.specs.declared.fault.Cause.TheVariants.{OutOfService, WordTooLo
 use Rattle.codes.specs.declared.fault.Layer.{Layer}
 use Rattle.codes.specs.declared.fault.Layer.TheVariants.{Word, Report, Table}
 use Rattle.codes.specs.declared.fault.Fault.{Fault}
-use Rattle.codes.specs.Fault.{number, letter, fault, Test, Reports, Passed, Refused, Outcome, Transition}
+use Rattle.codes.specs.Fault.{number, letter, fault, Test, Reports, Passed, Outcome, Transition}
 use Rattle.codes.specs.Meaning.{One}
 
 -- no two cases have the same number

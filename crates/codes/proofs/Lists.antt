@@ -1,7 +1,5 @@
 -- A list of slots becomes one list.
-use Rattle.std.proofs.Common.{◌≡◌, ℕ, zero, suc, ◌+◌, ◌<◌, List, [], ◌∷◌, length, get_or, Result, sym, refl, ap, ◌∙◌, subst, suc-le-suc, le_of_suc-le-suc, zero-lt-suc, arith}
-use Rattle.codes.specs.declared.fault.Fault.{Fault}
-use Rattle.codes.specs.declared.interface.Correction.{Correction}
+use Rattle.std.proofs.Common.{◌≡◌, ℕ, zero, suc, ◌<◌, List, [], ◌∷◌, length, get_or, refl, ap, ◌∙◌, suc-le-suc, le_of_suc-le-suc, zero-lt-suc, arith}
 use Rattle.codes.specs.declared.slots.Slot.{Slot}
 use Rattle.codes.specs.Meaning.{Meaning, Lawful, One}
 use Rattle.codes.specs.Slots.{answered, Filled, Listed, OneList}

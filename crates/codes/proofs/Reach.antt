@@ -1,8 +1,8 @@
 -- What the laws give of the codewords in reach.
-use Rattle.std.proofs.Common.{◌≡◌, ℕ, ◌+◌, ◌-◌, ◌*◌, ◌/◌, ◌^◌, ◌<◌, ◌≤◌, Bool, true, false, ◌&&◌, leb, ◌⊎◌, sym, ◌∙◌, subst, inl, inr, ⊎_elim, arith, shr_lt}
+use Rattle.std.proofs.Common.{◌≡◌, ℕ, ◌+◌, ◌-◌, ◌^◌, ◌<◌, Bool, true, false, ◌&&◌, leb, ◌⊎◌, sym, ◌∙◌, subst, inl, inr, ⊎_elim, arith, shr_lt}
 use Rattle.std.proofs.lemmas.Bool.{and_parts, and_from, both_ways, cases_Bool, cases_eq, cases_lt, leb-true, le-leb}
 use Rattle.codes.specs.Bounded.{any_below}
-use Rattle.codes.specs.Meaning.{Meaning, Lawful, Carries, Within, Beyond, message, distance}
+use Rattle.codes.specs.Meaning.{Meaning, Lawful, Within, Beyond, message, distance}
 use Rattle.codes.proofs.Bounds.{below_some, below_any}
 use Rattle.codes.proofs.Distance.{triangle, distance_comm}
 

@@ -1,5 +1,5 @@
 -- What the calls of a code answer.
-use Rattle.std.specs.Prelude.{◌≡◌, ℕ, ◌^◌, ◌<◌, ◌≤◌, true, false, List, [], ◌∷◌, Result, bit_xor}
+use Rattle.std.specs.Prelude.{◌≡◌, ℕ, ◌^◌, ◌<◌, ◌≤◌, true, false, [], ◌∷◌, Result, bit_xor}
 use Rattle.codes.specs.declared.fault.Fault.{Fault}
 use Rattle.codes.specs.declared.fault.Layer.TheVariants.{Word}
 use Rattle.codes.specs.declared.interface.Shape.{Shape}

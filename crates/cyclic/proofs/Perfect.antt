@@ -1,5 +1,5 @@
 -- That a code is perfect, from one computed test: the syndromes of all patterns of at most t flips, as the ones of a number, are all that there are.
-use Rattle.std.proofs.Common.{◌≡◌, ℕ, zero, suc, ◌+◌, ◌-◌, ◌*◌, ◌/◌, ◌%◌, ◌^◌, ◌<◌, ◌≤◌, ◌⊎◌, sym, refl, ap, ◌∙◌, subst, ap₂, inl, inr, ⊎_elim, mod-lt, zero-lt-suc, one-mul, pow-suc, zero-mul, mul-one, add-one, arith, pow_pos, pow-add}
+use Rattle.std.proofs.Common.{◌≡◌, ℕ, zero, suc, ◌+◌, ◌-◌, ◌*◌, ◌/◌, ◌%◌, ◌^◌, ◌<◌, ◌≤◌, ◌⊎◌, sym, ap, ◌∙◌, subst, ap₂, inl, inr, ⊎_elim, mod-lt, zero-lt-suc, one-mul, pow-suc, zero-mul, mul-one, add-one, arith, pow_pos, pow-add}
 use native.Mathlib.Nat.{div-eq_of_lt, mul-mod_left}
 use lib.Arith.{digits_div, digits_mod}
 use lib.Bits.{bit_xor, bit_or, or_shr, or_mod, xor_zero_r, xor_assoc, xor_comm}

@@ -6,7 +6,7 @@ use lib.Count.{ones, ones-le}
 use Rattle.std.proofs.lemmas.Nat.{one_shl}
 use Rattle.cyclic.specs.declared.code.Cyclic.{Cyclic}
 use Rattle.cyclic.specs.Generator.{Numbers, numbers, parity_bits, syndrome}
-use Rattle.cyclic.specs.Search.{Pattern, Table, row_of, Singles, Seconds, Pairs}
+use Rattle.cyclic.specs.Search.{Pattern, Table, row_of, Singles, Pairs}
 use Rattle.cyclic.specs.Linear.{remainder_zero, remainder_small, remainder_xor, xor_shl, xor_cancel}
 use Rattle.codes.proofs.Distance.{ones_xor_le}
 use Rattle.cyclic.specs.Weight.{ones_pow, ones_none, one_bit, two_bits}

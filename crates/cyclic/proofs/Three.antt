@@ -1,5 +1,5 @@
 -- The three codes: their numbers pass the test, and their least distances.
-use Rattle.std.proofs.Common.{◌≡◌, ℕ, ◌+◌, ◌*◌, ◌^◌, ◌<◌, ◌≤◌, ◌≢◌, sym, refl, ap, ◌∙◌, subst, arith, lit<, pow_pos}
+use Rattle.std.proofs.Common.{◌≡◌, ℕ, ◌+◌, ◌*◌, ◌^◌, ◌<◌, sym, refl, ◌∙◌, arith, lit<, pow_pos}
 use Rattle.cyclic.specs.Polynomial.{horner_in, horner, scale, times_x, remainder}
 use Rattle.cyclic.specs.Sound.{weight, spans, sound_at, sound}
 use Rattle.cyclic.specs.Generator.{Numbers, code_of, parity_bits, syndrome, g23, q31, q41}

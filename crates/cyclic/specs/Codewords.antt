@@ -1,6 +1,6 @@
 -- The set of codewords, by multiples and by the remainder, and the laws.
-use Rattle.std.specs.Prelude.{◌≡◌, ℕ, ◌*◌, ◌/◌, ◌^◌, ◌<◌, Bool, true, false, ◌&&◌, ◌==◌, bit_xor, nat_eq, nat_lt, refl}
-use Rattle.std.proofs.Common.{sym, ap, ap₂, ◌∙◌, arith}
+use Rattle.std.specs.Prelude.{◌≡◌, ℕ, ◌^◌, ◌<◌, Bool, true, false, ◌&&◌, ◌==◌, bit_xor, nat_eq, nat_lt, refl}
+use Rattle.std.proofs.Common.{sym, ap₂, ◌∙◌, arith}
 use Rattle.std.proofs.lemmas.Nat.{xor_lt}
 use Rattle.std.proofs.lemmas.Bool.{and_parts, and_from, ltb-true, lt-ltb, eqb-true, eq-eqb}
 use Rattle.codes.specs.Bounded.{any_below}
@@ -8,7 +8,7 @@ use Rattle.codes.specs.Meaning.{Lawful, Carries}
 use Rattle.codes.proofs.Bounds.{below_some, below_any}
 use Rattle.cyclic.specs.Polynomial.{product}
 use Rattle.cyclic.specs.Generator.{Numbers, code_of, parity_bits, syndrome, Codeword, Multiples}
-use Rattle.cyclic.specs.Linear.{remainder_xor, multiple_remainder, remainder_multiple, divide, exact}
+use Rattle.cyclic.specs.Linear.{remainder_xor, multiple_remainder, divide, exact}
 use Rattle.cyclic.specs.Facts.{Holds, far_apart}
 use Rattle.cyclic.specs.Turns.{systematic, systematic_codeword, systematic_message, systematic_only}
 

@@ -1,5 +1,5 @@
 -- The code of a generator, and the three generators.
-use Rattle.std.specs.Prelude.{◌≡◌, ℕ, ◌-◌, ◌^◌, ◌<◌, ◌≤◌, Bool, true, ◌&&◌, ◌≢◌, ◌==◌, nat_eq, nat_lt}
+use Rattle.std.specs.Prelude.{◌≡◌, ℕ, ◌-◌, ◌^◌, ◌<◌, Bool, true, ◌&&◌, ◌==◌, nat_eq, nat_lt}
 use Rattle.codes.specs.Bounded.{any_below}
 use Rattle.codes.specs.Meaning.{Meaning}
 use Rattle.cyclic.specs.Polynomial.{product, remainder, Multiple}

@@ -1,12 +1,11 @@
 -- One turn of each loop, and one step of the shifting rule.
-use Rattle.std.specs.Prelude.{◌≡◌, ℕ, zero, suc, ◌+◌, ◌-◌, ◌*◌, ◌/◌, ◌%◌, ◌^◌, ◌<◌, ◌≤◌, ◌≢◌, bit_and, bit_xor}
-use Rattle.std.proofs.Common.{sym, ap₂, ◌∙◌, subst, inl, inr, one-mul, add-zero, zero-add, suc-add, add-suc, pow-suc, le_of_suc-le-suc, not-suc-le-zero, lt_of_lt_of_le, mul_comm, mul-lt-mul_of_pos_right, div-lt_iff_lt-mul, zero-lt-suc, add-one, pow_pos, pow_mono, shl_exact, shl_lt, shr-shr, lit<}
+use Rattle.std.specs.Prelude.{◌≡◌, ℕ, zero, suc, ◌+◌, ◌-◌, ◌*◌, ◌/◌, ◌%◌, ◌^◌, ◌<◌, ◌≤◌, bit_and, bit_xor}
+use Rattle.std.proofs.Common.{sym, ap₂, ◌∙◌, subst, pow-suc, lt_of_lt_of_le, mul_comm, mul-lt-mul_of_pos_right, div-lt_iff_lt-mul, zero-lt-suc, add-one, pow_pos, pow_mono, shl_exact, shl_lt, shr-shr, lit<}
 use Rattle.std.proofs.Math.Path.{ap}
-use Rattle.std.proofs.Math.Nat.{div-eq_of_lt}
 use native.Mathlib.Omega.{arith}
 use Rattle.std.proofs.Math.Pow.{split, high}
 use Rattle.std.proofs.lemmas.Nat.{and_mask, xor_lt}
-use Rattle.std.specs.Int.Bits.{xor_zero_r, xor_shifted, xor_self}
+use Rattle.std.specs.Int.Bits.{xor_shifted, xor_self}
 use Rattle.cyclic.specs.Polynomial.{scale, times_x, remainder}
 use Rattle.cyclic.specs.Generator.{Numbers, parity_bits, syndrome, Codeword}
 use Rattle.cyclic.specs.Linear.{remainder_step, remainder_lt, remainder_xor, remainder_small, remainder_double, remainder_multiple, multiple_remainder}

@@ -1,6 +1,5 @@
 -- The answers of a code with a parity bit, from those of the code below.
 use Rattle.std.proofs.Common.{◌≡◌, ℕ, ◌+◌, ◌/◌, ◌^◌, ◌<◌, ◌≤◌, true, leb, Ok, Err, Result, sym, refl, ap, ◌∙◌, subst, inl, inr, ⊎_elim, arith, pow_mono, pow-add, MatchResult}
-use lib.Bits.{bit_xor}
 use lib.Count.{ones}
 use Rattle.std.proofs.lemmas.Bool.{and_parts, both_ways}
 use Rattle.codes.specs.declared.fault.Fault.{Fault}
@@ -10,10 +9,10 @@ use Rattle.codes.specs.declared.interface.Correction.{Correction}
 use Rattle.codes.specs.declared.interface.Shape.{Shape}
 use Rattle.codes.specs.Fault.{fault}
 use Rattle.codes.specs.Interface.{Shaped, Encoded, Corrects, Corrected}
-use Rattle.codes.specs.Meaning.{Meaning, Lawful, Carries, Within, distance}
+use Rattle.codes.specs.Meaning.{Meaning, Lawful, Carries, distance}
 use Rattle.codes.proofs.Faults.{reported}
 use Rattle.layers.specs.Parity.{with_parity, append_parity, raise}
-use Rattle.layers.specs.ParityLaws.{parity_lawful, parity_appended, appended_message, parity_beyond, parity_only}
+use Rattle.layers.specs.ParityLaws.{parity_appended, appended_message, parity_beyond, parity_only}
 
 module _ {m : Meaning} (law : Lawful m) where
   -- codewords of a code in service have room for one more bit

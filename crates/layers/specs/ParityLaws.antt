@@ -1,12 +1,12 @@
 -- The laws of a code with a parity bit, from the laws of the code below.
-use Rattle.std.specs.Prelude.{◌≡◌, ℕ, ◌+◌, ◌-◌, ◌/◌, ◌%◌, ◌^◌, ◌<◌, ◌≤◌, true, ◌==◌, bit_xor, count_ones, nat_le}
+use Rattle.std.specs.Prelude.{◌≡◌, ℕ, ◌+◌, ◌-◌, ◌/◌, ◌%◌, ◌^◌, ◌<◌, true, ◌==◌, bit_xor, count_ones, nat_le}
 use Rattle.std.proofs.Common.{sym, ap, subst, ◌∙◌, ⊎_elim, arith, pow-add, shr-shr}
 use Rattle.std.proofs.lemmas.Nat.{xor_shr}
 use Rattle.std.specs.Int.Count.{ones_step}
 use Rattle.std.proofs.lemmas.Bool.{eqb-true, eq-eqb, leb-true, and_parts, and_from, cases_eq, cases_lt}
 use Rattle.codes.specs.Meaning.{Meaning, Lawful, One, Carries, Within, Beyond, message, distance}
 use Rattle.codes.proofs.Distance.{ones_xor, distance_step}
-use Rattle.codes.proofs.Reach.{one_within, same_message}
+use Rattle.codes.proofs.Reach.{one_within}
 use Rattle.layers.specs.Parity.{with_parity, append_parity}
 
 pub append_high : (v : ℕ) → append_parity v / 2 ≡ v

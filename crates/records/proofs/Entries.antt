@@ -1,10 +1,9 @@
 -- The entries of a payload, and the time of a floor.
-use Rattle.std.proofs.Common.{◌≡◌, ℕ, zero, suc, ◌+◌, ◌*◌, ◌/◌, ◌%◌, ◌<◌, ◌≤◌, ◌⊎◌, List, [], ◌∷◌, ◌++◌, length, get_or, Some, None, Ok, Err, Option, Result, sym, refl, ap, ◌∙◌, subst, inl, inr, ⊎_elim, append_assoc, append-nil, arith}
-use Rattle.std.specs.List.{slice_get, AllByRecursion}
-use Rattle.codes.specs.declared.fault.Fault.{Fault}
+use Rattle.std.proofs.Common.{◌≡◌, ℕ, zero, suc, ◌+◌, ◌*◌, ◌/◌, ◌%◌, ◌<◌, ◌≤◌, List, [], ◌∷◌, length, get_or, Some, None, Ok, Option, refl, ap, ◌∙◌, arith}
+use Rattle.std.specs.List.{slice_get}
 use Rattle.records.specs.declared.layout.Kind.{Kind}
 use Rattle.records.specs.declared.layout.Record.{Record}
-use Rattle.records.specs.Layout.{Content, two_at, bytes_of, laid, Sound, Means}
+use Rattle.records.specs.Layout.{Content, two_at}
 use Rattle.records.specs.Lookup.{entries, first_of, time_at, LookedUp, payload_of}
 use Rattle.records.specs.Steps.{Found, FirstOf}
 

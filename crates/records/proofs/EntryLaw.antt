@@ -1,5 +1,5 @@
 -- A lookup leaves one answer: the floor's entry in the first record of the kind.
-use Rattle.std.proofs.Common.{◌≡◌, ℕ, ◌<◌, eqb, ◌⊎◌, List, [], ◌∷◌, ◌++◌, length, Some, None, Ok, Err, Option, Result, sym, refl, ap, ◌∙◌, subst, inl, inr, ⊎_elim, append_assoc, append-nil, arith}
+use Rattle.std.proofs.Common.{◌≡◌, ℕ, ◌<◌, eqb, ◌⊎◌, List, [], ◌∷◌, ◌++◌, length, Some, None, Ok, Err, Option, Result, sym, refl, ap, ◌∙◌, subst, inl, inr, ⊎_elim, append-nil, arith}
 use Rattle.std.specs.List.{slice_get, AllByRecursion}
 use Rattle.std.proofs.lemmas.Bool.{cases_lt, eq-eqb, cond-true}
 use Rattle.codes.specs.declared.fault.Cause.TheVariants.{BadRecord}
@@ -9,7 +9,7 @@ use Rattle.codes.specs.Meaning.{One}
 use Rattle.codes.proofs.Faults.{Decided, one_outcome}
 use Rattle.tables.specs.Stream.{Bytes}
 use Rattle.records.specs.declared.layout.Kind.{Kind}
-use Rattle.records.specs.Layout.{Content, kind_number, bytes_of, laid, Sound, Faulty, Means}
+use Rattle.records.specs.Layout.{Content, kind_number, bytes_of, laid, Sound, Faulty}
 use Rattle.records.specs.Lookup.{entries, first_of, time_at, met_sound, LookedUp, times_record, Entry}
 use Rattle.records.proofs.Meanings.{meaning, front_of, first_means, no_record, same_meaning, laid_means}
 use Rattle.records.proofs.Walking.{first_append, some_not_none}

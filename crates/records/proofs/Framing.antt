@@ -1,11 +1,11 @@
 -- One record at the front of bytes: it is told apart from what follows it, and from a faulty one.
-use Rattle.std.proofs.Common.{◌≡◌, ℕ, suc, ◌+◌, ◌-◌, ◌*◌, ◌/◌, ◌%◌, ◌<◌, ◌≤◌, Bool, true, false, cond, ◌||◌, eqb, ◌⊎◌, List, [], ◌∷◌, ◌++◌, length, get_or, take, drop, sym, refl, ap, ◌∙◌, subst, inl, inr, ⊎_elim, arith, length-append, length-take-le, get_or-drop, get_or-take, rules}
+use Rattle.std.proofs.Common.{◌≡◌, ℕ, suc, ◌+◌, ◌-◌, ◌*◌, ◌/◌, ◌%◌, ◌<◌, ◌≤◌, Bool, true, false, cond, ◌||◌, eqb, ◌⊎◌, List, [], ◌∷◌, ◌++◌, length, get_or, take, drop, sym, refl, ap, ◌∙◌, inl, inr, ⊎_elim, arith, length-append, length-take-le, get_or-drop, get_or-take}
 use Rattle.std.proofs.lemmas.List.{take_at, drop_at, take-append-drop, length-drop, drop-drop}
 use Rattle.std.proofs.lemmas.Bool.{eqb-true, eqb-false, false≢true, cases_lt, cases_Bool}
 use Rattle.tables.specs.Stream.{Bytes}
 use Rattle.records.specs.declared.layout.Kind.TheVariants.{Travel, Door, Other}
 use Rattle.records.specs.declared.layout.Record.{Record}
-use Rattle.records.specs.Layout.{Content, bytes_of, Sound, two_at, holds_times, kind_of, CutShort, HalfEntry, Faulty}
+use Rattle.records.specs.Layout.{Content, bytes_of, Sound, two_at, holds_times, kind_of, Faulty}
 use Rattle.records.specs.Steps.{Begins, half_entry}
 
 abbrev content : ℕ → List ℕ → Content

@@ -1,14 +1,13 @@
 -- All bytes mean one thing: the records that they begin with, and what is left.
-use Rattle.std.proofs.Common.{◌≡◌, ℕ, zero, suc, ◌+◌, ◌%◌, ◌<◌, ◌≤◌, Bool, true, false, ◌⊎◌, List, [], ◌∷◌, ◌++◌, length, take, drop, Some, None, Ok, sym, refl, ap, ◌∙◌, subst, inl, inr, ⊎_elim, append_assoc, append-nil, arith}
+use Rattle.std.proofs.Common.{◌≡◌, ℕ, zero, suc, ◌+◌, ◌≤◌, ◌⊎◌, List, [], ◌∷◌, ◌++◌, length, drop, Some, None, Ok, sym, refl, ap, ◌∙◌, subst, inl, inr, ⊎_elim, append_assoc, append-nil, arith}
 use Rattle.std.specs.List.{AllByRecursion}
-use Rattle.codes.specs.Meaning.{One}
 use Rattle.tables.specs.Stream.{Bytes}
-use Rattle.std.proofs.lemmas.List.{length-append, length-drop, drop_at, drop-drop, drop_all}
+use Rattle.std.proofs.lemmas.List.{length-append, drop_at, drop-drop, drop_all}
 use Rattle.records.specs.declared.layout.Record.{Record}
 use Rattle.records.specs.Layout.{Content, bytes_of, laid, Sound, two_at, Faulty, Means, ReadBack}
 use Rattle.records.specs.Reader.{ReadOn}
 use Rattle.records.specs.Steps.{Begins}
-use Rattle.records.proofs.Framing.{same_record, sound_not_faulty, content_at, bytes_drop, Starts, judged}
+use Rattle.records.proofs.Framing.{same_record, sound_not_faulty, content_at, bytes_drop, judged}
 
 pub no_bytes : (bs : List ℕ) → bs ≡ [] → Means bs [] []
 no_bytes bs e = record { parts = e; sound = tt; ends = inl refl }

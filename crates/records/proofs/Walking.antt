@@ -1,16 +1,15 @@
 -- Walking along the records of a table until one of a kind is met.
-use Rattle.std.proofs.Common.{◌≡◌, ℕ, ◌+◌, ◌-◌, ◌<◌, ◌≤◌, Bool, true, false, cond, eqb, ◌⊎◌, List, [], ◌∷◌, ◌++◌, length, drop, Some, None, Ok, Err, Option, sym, refl, ap, ◌∙◌, subst, inl, inr, ⊎_elim, append_assoc, append-nil, arith}
+use Rattle.std.proofs.Common.{◌≡◌, ℕ, ◌+◌, ◌-◌, ◌<◌, Bool, true, false, cond, eqb, List, [], ◌∷◌, ◌++◌, length, drop, Some, None, Ok, Err, sym, refl, ap, ◌∙◌, subst, inl, inr, ⊎_elim, append_assoc, append-nil, arith}
 use Rattle.std.specs.List.{AllByRecursion}
 use Rattle.std.proofs.lemmas.List.{length-append, length-drop}
-use Rattle.std.proofs.lemmas.Bool.{eqb-true, eqb-false, eq-eqb, ne_eqb, false≢true, cases_Bool, cond-true, cond-false}
+use Rattle.std.proofs.lemmas.Bool.{eqb-true, eq-eqb, ne_eqb, cases_Bool, cond-true, cond-false}
 use Rattle.codes.specs.declared.fault.Fault.{Fault}
-use Rattle.codes.specs.Fault.{Reports}
 use Rattle.records.specs.declared.layout.Kind.{Kind}
 use Rattle.records.specs.declared.layout.Kind.TheVariants.{Travel, Door, Other}
 use Rattle.records.specs.declared.layout.Record.{Record}
-use Rattle.records.specs.Layout.{Content, kind_number, kind_of, bytes_of, laid, Sound, Faulty, Means}
-use Rattle.records.specs.Lookup.{first_of, met_sound}
-use Rattle.records.specs.Reader.{ReadOn, HandedOut}
+use Rattle.records.specs.Layout.{Content, kind_number, kind_of, bytes_of, laid, Sound, Means}
+use Rattle.records.specs.Lookup.{first_of}
+use Rattle.records.specs.Reader.{ReadOn}
 use Rattle.records.specs.Steps.{Found, FirstOf}
 use Rattle.records.proofs.Meanings.{left_behind}
 

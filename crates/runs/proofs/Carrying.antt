@@ -1,5 +1,5 @@
 -- Words that are offered in order, and a table that is carried.
-use Rattle.std.proofs.Common.{◌≡◌, ℕ, zero, suc, ◌+◌, ◌-◌, ◌*◌, ◌/◌, ◌^◌, ◌<◌, ◌≤◌, true, cond, ltb, ◌⊎◌, List, [], ◌∷◌, ◌++◌, map, length, get_or, take, drop, Ok, Err, Result, sym, refl, ap, ◌∙◌, subst, inl, inr, ⊎_elim, suc-le-suc, le_of_suc-le-suc, zero-lt-suc, arith, pow_pos}
+use Rattle.std.proofs.Common.{◌≡◌, ℕ, zero, suc, ◌+◌, ◌-◌, ◌*◌, ◌^◌, ◌<◌, ◌≤◌, true, ltb, List, [], ◌∷◌, ◌++◌, map, length, get_or, take, drop, Ok, Err, Result, sym, refl, ap, ◌∙◌, subst, inl, inr, ⊎_elim, suc-le-suc, zero-lt-suc, arith, pow_pos}
 use lib.Bits.{bit_xor, xor_lt, xor_assoc, xor_comm, xor_self}
 use lib.Count.{ones}
 use lib.Seq.{take-append_seam}
@@ -8,7 +8,7 @@ use Rattle.std.proofs.lemmas.List.{length_push, length-map, length-take-le, get_
 use Rattle.std.proofs.lemmas.Bool.{cases_lt, cond-true, cond-false, lt-ltb, le-ltb, both_ways}
 use Rattle.codes.specs.declared.fault.Fault.{Fault}
 use Rattle.codes.specs.Fault.{Refused}
-use Rattle.codes.specs.Meaning.{Meaning, Lawful, Carries, Within, Beyond, message, distance}
+use Rattle.codes.specs.Meaning.{Meaning, Lawful, Carries, Within, message}
 use Rattle.codes.proofs.Reach.{one_within, within_beyond}
 use Rattle.link.specs.declared.receiver.Answer.{Answer}
 use Rattle.link.specs.declared.report.Place.{Place}
@@ -17,7 +17,7 @@ use Rattle.tables.specs.Sender.{words_for, Sent}
 use Rattle.tables.specs.Speller.{TableOf}
 use Rattle.tables.specs.Stream.{Bytes, message_at}
 use Rattle.tables.proofs.Spelling.{one_table, has_messages}
-use Rattle.link.specs.Receiver.{Answers, place_by, flips_by, Offered}
+use Rattle.link.specs.Receiver.{place_by, flips_by, Offered}
 use Rattle.link.specs.Sealed.{first_gap, Holds, Spells}
 use Rattle.link.proofs.SpellingPlaces.{settled_same, settled_no_gap}
 use Rattle.runs.specs.Book.{Demands}

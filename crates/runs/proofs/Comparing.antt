@@ -1,14 +1,14 @@
 -- Two runs, and when their reports are equal.
-use Rattle.std.proofs.Common.{◌≡◌, ℕ, ◌+◌, ◌<◌, Bool, true, false, cond, not, ◌&&◌, ltb, ◌⊎◌, List, [], ◌∷◌, ◌++◌, length, get_or, set, sym, refl, ap, ◌∙◌, subst, inl, inr, ⊎_elim, arith}
+use Rattle.std.proofs.Common.{◌≡◌, ℕ, ◌+◌, ◌<◌, Bool, true, false, cond, not, ◌&&◌, ltb, List, [], ◌∷◌, ◌++◌, length, get_or, set, sym, refl, ap, ◌∙◌, subst, inl, inr, ⊎_elim, arith}
 use mathlib.Core.Path.{fun_ext}
 use Rattle.std.proofs.lemmas.List.{length_push, length-set, ext_get_or}
-use Rattle.codes.specs.Meaning.{Meaning, Lawful, Within, Beyond, message, distance}
+use Rattle.codes.specs.Meaning.{Meaning, Lawful, Within, message}
 use Rattle.codes.proofs.Reach.{one_within, within_beyond, same_message, reaching_some, reaching_none}
 use Rattle.link.specs.declared.report.Place.{Place}
 use Rattle.link.specs.declared.report.Place.TheVariants.{Settled, Gap}
 use Rattle.runs.specs.declared.calls.Call.{Call}
 use Rattle.runs.specs.declared.calls.Call.TheVariants.{Offer, Repeat, Clear}
-use Rattle.runs.specs.Book.{reached, hearable, noted, book_from, book, counted, heard_from, heard, Demands, Demanded}
+use Rattle.runs.specs.Book.{reached, hearable, noted, book_from, book, counted, heard_from, Demands, Demanded}
 use Rattle.runs.specs.Law.{SameParts, Agree, Alike, Runs}
 
 -- ---- the book has a word for each offer that was heard

@@ -1,14 +1,13 @@
 -- How the report follows the book.
-use Rattle.std.proofs.Common.{◌≡◌, ℕ, suc, ◌+◌, ◌^◌, ◌<◌, ◌≤◌, Bool, true, false, not, ◌&&◌, ltb, ◌⊎◌, List, [], ◌∷◌, ◌++◌, length, get_or, take, set, Some, None, Ok, Err, sum_by, sum, Result, sym, refl, ap, ◌∙◌, subst, ap₂, inl, inr, ⊎_elim, suc-le-suc, arith}
-use lib.Bits.{bit_xor}
+use Rattle.std.proofs.Common.{◌≡◌, ℕ, suc, ◌+◌, ◌^◌, ◌<◌, ◌≤◌, Bool, true, false, not, ◌&&◌, ltb, ◌⊎◌, List, [], ◌∷◌, ◌++◌, length, get_or, take, set, Some, Ok, Err, sum, Result, sym, refl, ap, ◌∙◌, subst, inl, inr, ⊎_elim, suc-le-suc, arith}
 use lib.Count.{ones}
 use Rattle.std.specs.List.{slice_get}
 use Rattle.std.proofs.lemmas.List.{length_push, length-set, get_or_append_left, get_or_push, get_or-set_same, get_or-set_other, take_more, take_all}
 use Rattle.std.proofs.lemmas.Option.{slice_get-get_or, slice_get_past}
 use Rattle.std.proofs.lemmas.List.Sums.{sum_by-cons}
-use Rattle.std.proofs.lemmas.Bool.{and_from, and_left, and_right, cases_Bool, cases_lt, cases_eq, cond-true, cond-false, not_from_true, not_from_false, lt-ltb, le-ltb, both_ways}
+use Rattle.std.proofs.lemmas.Bool.{and_from, and_left, and_right, cases_Bool, cases_lt, cases_eq, cond-true, cond-false, not_from_true, not_from_false, lt-ltb, le-ltb}
 use Rattle.codes.specs.declared.fault.Fault.{Fault}
-use Rattle.codes.specs.Meaning.{Meaning, Lawful, Within, Beyond, message, distance}
+use Rattle.codes.specs.Meaning.{Meaning, Lawful, Beyond}
 use Rattle.codes.proofs.Reach.{within_beyond, reaching_some, reaching_found}
 use Rattle.link.specs.declared.receiver.Answer.{Answer}
 use Rattle.link.specs.declared.receiver.Answer.TheVariants.{Settled as settled_at, Gap as gap_at}
@@ -17,8 +16,8 @@ use Rattle.link.specs.declared.report.Place.TheVariants.{Settled, Gap}
 use Rattle.link.specs.Receiver.{Answers, place_by, flips_by, Offered, Repeated, Keeps}
 use Rattle.link.specs.Report.{one_if_settled, settled_in}
 use Rattle.runs.specs.declared.calls.Call.{Call}
-use Rattle.runs.specs.declared.calls.Call.TheVariants.{Offer, Repeat, Clear}
-use Rattle.runs.specs.Book.{reached, hearable, noted, book_from, book, counted, heard_from, heard, Demands, Demanded, Tally}
+use Rattle.runs.specs.declared.calls.Call.TheVariants.{Offer, Repeat}
+use Rattle.runs.specs.Book.{reached, hearable, noted, book_from, book, Demands, Demanded, Tally}
 
 -- ---- the codewords in reach
 

@@ -9,7 +9,7 @@ use Rattle.codes.proofs.Answering.{service_decided}
 use Rattle.codes.proofs.Faults.{Decided}
 use Rattle.codes.proofs.Reach.{same_message}
 use Rattle.tables.specs.declared.feed.Feed.{Feed}
-use Rattle.tables.specs.Feed.{feed, joined, left}
+use Rattle.tables.specs.Feed.{joined, left}
 use Rattle.tables.specs.Sender.{has_bits, words_for, table_fits, list_fits, Words, OneSending}
 use Rattle.tables.specs.Stream.{stream, message_at}
 use Rattle.tables.proofs.Joined.{message_is, message_below}

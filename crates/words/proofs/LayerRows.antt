@@ -7,7 +7,7 @@ use Rattle.codes.specs.declared.fault.Cause.TheVariants.{BeyondReach}
 use Rattle.codes.specs.declared.fault.Layer.TheVariants.{Word}
 use Rattle.codes.specs.Fault.{fault}
 use Rattle.codes.specs.Interface.{Corrects}
-use Rattle.codes.specs.Meaning.{Meaning, Lawful, Carries, Within, Beyond, distance}
+use Rattle.codes.specs.Meaning.{Meaning, Lawful, Carries, Beyond, distance}
 use Rattle.cyclic.specs.Linear.{xor_cancel}
 use Rattle.layers.specs.Parity.{with_parity, append_parity}
 use Rattle.layers.specs.Shortened.{shorten}

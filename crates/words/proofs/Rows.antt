@@ -1,5 +1,5 @@
 -- Rows over the codes of generators, each from a computed test.
-use Rattle.std.proofs.Common.{◌≡◌, ℕ, suc, ◌*◌, ◌/◌, ◌^◌, ◌<◌, ◌≤◌, Bool, ◌&&◌, T, eqb, ltb, leb, Ok, sym, refl, ◌∙◌, subst, inl, inr, eqb→eq, ltb→lt, leb→le}
+use Rattle.std.proofs.Common.{ℕ, suc, ◌*◌, ◌/◌, ◌^◌, ◌<◌, ◌≤◌, Bool, ◌&&◌, T, eqb, ltb, leb, Ok, sym, refl, subst, inl, inr, eqb→eq, ltb→lt, leb→le}
 use lib.Bits.{bit_xor}
 use lib.Count.{ones}
 use Rattle.codes.specs.declared.fault.Cause.TheVariants.{BeyondReach}

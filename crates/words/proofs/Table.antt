@@ -1,5 +1,5 @@
 -- The table of checked words stands.
-use Rattle.std.proofs.Common.{◌≡◌, ℕ, zero, suc, ◌%◌, ◌<◌, ◌≤◌, List, [], ◌∷◌, length, get_or, sym, refl, ap, ◌∙◌, subst, arith, lit<, lit≤}
+use Rattle.std.proofs.Common.{◌≡◌, ℕ, zero, suc, ◌%◌, ◌<◌, ◌≤◌, [], ◌∷◌, get_or, sym, refl, ap, ◌∙◌, subst, arith, lit<, lit≤}
 use lib.Count.{ones}
 use Rattle.std.proofs.lemmas.List.{get_or_past}
 use Rattle.codes.specs.Meaning.{Lawful, Carries}

@@ -1,4 +1,4 @@
-use Rattle.std.proofs.Common.{◌^◌, ◌<◌, arith, pow_mono}
+use Rattle.std.proofs.Common.{arith, pow_mono}
 use Rattle.codes.proofs.Answering.{long_by_shift, short_by_shift}
 use Rattle.codes.proofs.interface.high_bits.Goals as goal
 

@@ -1,4 +1,4 @@
-use Rattle.std.proofs.Common.{Some, None, Ok, sym, ap, ◌∙◌, subst}
+use Rattle.std.proofs.Common.{Some, Ok, sym, ap, ◌∙◌, subst}
 use Rattle.std.proofs.lemmas.Result.{err_from_is_err_and}
 use Rattle.records.specs.Reader.{ReadOn}
 use Rattle.records.proofs.Walking.{at_start, none_left, faulty_next, met, passed_over, goes_on}

@@ -1,6 +1,5 @@
-use Rattle.std.proofs.Common.{sym, refl, ap, ◌∙◌, subst, arith, rules}
+use Rattle.std.proofs.Common.{sym, refl, arith, rules}
 use Rattle.tables.specs.Stream.{Bytes}
-use Rattle.records.specs.Steps.{half_entry}
 use Rattle.records.proofs.Framing.{cut_head, cut_payload, half_at_end, begins}
 use Rattle.records.proofs.reader.record_at.Goals as goal
 

@@ -1,4 +1,4 @@
-use Rattle.std.proofs.Common.{ℕ, get_or, refl, ap, ◌∙◌}
+use Rattle.std.proofs.Common.{get_or, refl, ap, ◌∙◌}
 use lib.Bits.{bit_xor}
 use Rattle.codes.specs.Meaning.{meaning}
 use Rattle.link.specs.Report.{places_of}

@@ -1,5 +1,4 @@
-use Rattle.std.proofs.Common.{ℕ, ◌-◌, ◌*◌, ◌/◌, ◌%◌, ◌^◌, ◌<◌, sym, ap, ◌∙◌, subst, lt_of_le_of_lt, arith, rules}
-use lib.Bits.{bit_xor}
+use Rattle.std.proofs.Common.{◌-◌, ◌*◌, ◌/◌, ◌%◌, ◌^◌, ◌<◌, lt_of_le_of_lt, rules}
 use Rattle.cyclic.specs.Generator.{numbers}
 use Rattle.cyclic.specs.Facts.{facts}
 use Rattle.cyclic.specs.Turns.{doubles, times_x_carry, carried_le}

@@ -1,5 +1,4 @@
-use Rattle.std.proofs.Common.{◌≡◌, rules}
-use Rattle.link.specs.contracts.report.PlacePartialEq.TheImpl.{ghosts}
+use Rattle.std.proofs.Common.{rules}
 use Rattle.link.proofs.Places.{lists_compared}
 use Rattle.link.proofs.report.edits.same_places.Goals as goal
 
