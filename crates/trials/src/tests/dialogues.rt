@@ -187,7 +187,7 @@ fn long_line(rt: HostRuntime) -> Result<(), Fail> {
     for byte in b"W 000000000000000001".iter() {
         line.push(*byte);
     }
-    assert!(rt; line.line() == b"W 0000000000000000");
+    assert!(rt; line.line() == b"W 0000000000000000".as_slice());
     let mut listing = Listing::open(b"Q41")?;
     says(&rt, &mut listing, line.line(), "NO 13")
 }

@@ -484,11 +484,11 @@ fn handed_out(rt: HostRuntime) -> Result<(), Fail> {
     let first = reader.next()?.ok_or("no record")?;
     assert_eq!(rt; first.kind, Kind::Other(9));
     assert_eq!(rt; first.place, 0);
-    assert!(rt; first.payload == &[7]);
+    assert!(rt; first.payload == [7].as_slice());
     let second = reader.next()?.ok_or("no record")?;
     assert_eq!(rt; second.kind, Kind::Travel);
     assert_eq!(rt; second.place, 5);
-    assert!(rt; second.payload == &[41, 0, 63, 0]);
+    assert!(rt; second.payload == [41, 0, 63, 0].as_slice());
     assert!(rt; reader.next().err() == Some(at(Cause::BadRecord, 13)));
     assert!(rt; reader.next().err() == Some(at(Cause::BadRecord, 13)));
     assert_eq!(rt; travel_time(&TABLE, 2), Ok(None));
