@@ -1,13 +1,12 @@
 -- Words that are offered one after the other.
-use Rattle.std.proofs.Common.{◌≡◌, ℕ, ◌+◌, ◌<◌, ◌≤◌, ◌⊎◌, List, [], ◌∷◌, length, get_or, drop, Ok, Err, Result, sym, refl, subst, inl, inr}
+use Rattle.std.proofs.Common.{ℕ, ◌+◌, ◌<◌, ◌≤◌, List, length, get_or, drop, Ok, Err, Result, sym, refl, subst, inl, inr}
 use Rattle.std.proofs.lemmas.List.{drop_more, drop_all}
 use Rattle.codes.specs.declared.fault.Fault.{Fault}
 use Rattle.codes.specs.Meaning.{Meaning}
 use Rattle.link.specs.declared.receiver.Answer.{Answer}
 use Rattle.link.specs.declared.report.Place.{Place}
 use Rattle.link.specs.Receiver.{Offered}
-use Rattle.link.specs.Sealed.{Spells}
-use Rattle.capi.specs.Transfer.{HeardAll, Received}
+use Rattle.capi.specs.Transfer.{HeardAll}
 
 -- what came of the words from the i-th on, by the answer to the i-th
 module _ (m : Meaning) (words : List ℕ) (i : ℕ) (ps : List Place) (inside : i < length words) where

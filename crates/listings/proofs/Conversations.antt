@@ -1,5 +1,5 @@
 -- A listing keeps to the book of its commands, line by line.
-use Rattle.std.proofs.Common.{◌≡◌, ℕ, ◌⊎◌, List, [], ◌∷◌, sym, refl, subst, inl, inr}
+use Rattle.std.proofs.Common.{ℕ, List, [], ◌∷◌, sym, refl, subst, inl, inr}
 use Rattle.codes.specs.Meaning.{Meaning, Lawful}
 use Rattle.runs.specs.declared.calls.Call.{Call}
 use Rattle.runs.specs.declared.calls.Call.TheVariants.{Offer, Repeat, Clear}
@@ -7,7 +7,7 @@ use Rattle.runs.specs.Book.{noted, book_from, Demanded}
 use Rattle.runs.proofs.Following.{offer_noted, repeat_noted, demanded_none}
 use Rattle.lines.specs.declared.reply.Reply.{Reply}
 use Rattle.lines.specs.Command.{Stands, StandsForNone}
-use Rattle.listings.specs.Listing.{Held, Does, Replied}
+use Rattle.listings.specs.Listing.{Held, Does}
 use Rattle.listings.specs.Conversation.{Answered, Commands, nothing, KeepsBook}
 
 -- the report holds what the book demands

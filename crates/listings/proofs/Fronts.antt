@@ -1,8 +1,7 @@
 -- The first 18 bytes of a line are the line, or stand for nothing, as the line does.
-use Rattle.std.proofs.Common.{◌≡◌, ℕ, ◌+◌, ◌<◌, ◌≤◌, Bool, true, false, ◌⊎◌, List, [], ◌∷◌, ◌++◌, length, take, set, sym, refl, ap, ◌∙◌, subst, inl, inr, ⊎_elim, arith, length-append, length-take-le}
+use Rattle.std.proofs.Common.{◌≡◌, ℕ, ◌+◌, ◌<◌, ◌≤◌, Bool, true, false, List, [], ◌∷◌, ◌++◌, length, take, set, sym, ap, ◌∙◌, subst, ⊎_elim, arith, length-append, length-take-le}
 use Rattle.std.proofs.lemmas.List.{take_all, take-append-le, take-take, take_more_set}
 use Rattle.std.proofs.lemmas.Bool.{cases_lt}
-use Rattle.runs.specs.declared.calls.Call.{Call}
 use Rattle.lines.specs.declared.heading.Heading.{Heading}
 use Rattle.lines.specs.declared.heading.Name.{Name}
 use Rattle.lines.specs.declared.heading.Name.TheVariants.{G23, Q31, Q41}

@@ -1,5 +1,5 @@
 -- A line has one reply, and leaves one report.
-use Rattle.std.proofs.Common.{◌≡◌, ℕ, ◌<◌, ◌≤◌, ◌⊎◌, List, [], ◌∷◌, ◌++◌, length, drop, set, Ok, Err, Result, sym, refl, ap, ◌∙◌, subst, inl, inr, ⊎_elim, arith}
+use Rattle.std.proofs.Common.{◌≡◌, ℕ, List, [], ◌∷◌, ◌++◌, length, drop, set, Ok, Err, Result, refl, ap, ◌∙◌, subst, inl, inr, ⊎_elim, arith}
 use Rattle.std.proofs.lemmas.Bool.{cases_lt}
 use Rattle.codes.specs.declared.fault.Cause.{Cause}
 use Rattle.codes.specs.declared.fault.Cause.TheVariants.{TooShort, BadLine}
@@ -16,10 +16,10 @@ use Rattle.runs.specs.declared.calls.Call.{Call}
 use Rattle.runs.specs.declared.calls.Call.TheVariants.{Offer, Repeat, Clear}
 use Rattle.lines.specs.declared.reply.Reply.{Reply}
 use Rattle.lines.specs.declared.reply.Reply.TheVariants.{Cleared, Refused}
-use Rattle.lines.specs.Command.{Stands, StandsForNone, ReadAs}
+use Rattle.lines.specs.Command.{ReadAs}
 use Rattle.lines.specs.Reply.{reply_text}
 use Rattle.lines.proofs.Commands.{grammar}
-use Rattle.listings.specs.Listing.{Held, reply_of, Does, Replied, line_fits, Lined, OneLine}
+use Rattle.listings.specs.Listing.{Held, reply_of, Does, Replied, line_fits, OneLine}
 
 abbrev held : List Place → List ℕ → Held
 held ps fs = record { places = ps; flips = fs }

@@ -1,11 +1,10 @@
 -- Every reply has at most 32 bytes: places are below 256, and words of a code in service below 2 ^ 42.
-use Rattle.std.proofs.Common.{◌≡◌, ℕ, ◌-◌, ◌/◌, ◌^◌, ◌<◌, ◌≤◌, ◌⊎◌, List, length, Ok, Err, Result, sym, refl, ap, ◌∙◌, subst, inl, inr, ⊎_elim, lt_of_lt_of_le, lt_of_le_of_lt, div-le_self, arith, pow_mono}
+use Rattle.std.proofs.Common.{ℕ, ◌-◌, ◌^◌, ◌<◌, ◌≤◌, List, length, Ok, Err, sym, subst, inl, inr, lt_of_lt_of_le, lt_of_le_of_lt, div-le_self, arith, pow_mono}
 use lib.Bits.{bit_xor, xor_lt}
-use Rattle.codes.specs.declared.fault.Fault.{Fault}
 use Rattle.codes.specs.Meaning.{Meaning, Lawful}
 use Rattle.link.specs.declared.receiver.Answer.{Answer}
 use Rattle.link.specs.declared.receiver.Answer.TheVariants.{Settled as settled_at, Gap as gap_at}
-use Rattle.link.specs.Receiver.{Answers, Offered, Repeated}
+use Rattle.link.specs.Receiver.{Answers}
 use Rattle.link.proofs.Places.{nth_within}
 use Rattle.lines.specs.declared.reply.Reply.{Reply}
 use Rattle.lines.specs.Reply.{reply_text}

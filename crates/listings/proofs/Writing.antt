@@ -1,5 +1,5 @@
 -- A short reply is written where the buffer has room.
-use Rattle.std.proofs.Common.{◌≡◌, ℕ, ◌≤◌, ◌⊎◌, List, length, Ok, Err, Result, inl, inr, ⊎_elim, arith}
+use Rattle.std.proofs.Common.{ℕ, ◌≤◌, List, length, Ok, Err, Result, ⊎_elim, arith}
 use Rattle.codes.specs.declared.fault.Fault.{Fault}
 use Rattle.codes.specs.Meaning.{Meaning}
 use Rattle.lines.specs.declared.reply.Reply.{Reply}

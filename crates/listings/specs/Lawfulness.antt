@@ -1,5 +1,5 @@
 -- A code that was picked keeps the laws, and a report has at most 256 places.
-use Rattle.std.specs.Prelude.{◌≤◌, List, length}
+use Rattle.std.specs.Prelude.{◌≤◌, length}
 use Rattle.std.proofs.Common.{arith, length-take}
 use Rattle.codes.specs.Meaning.{Lawful}
 use Rattle.cyclic.specs.Generator.{numbers}

@@ -1,4 +1,4 @@
-use Rattle.std.proofs.Common.{[], Ok, Err, sym, refl, ◌∙◌, subst, inl, inr}
+use Rattle.std.proofs.Common.{[], Ok, Err, refl, ◌∙◌, subst, inl, inr}
 use Rattle.std.proofs.lemmas.Result.{err_from_is_err_and}
 use Rattle.link.specs.Report.{places_of}
 use Rattle.link.specs.Sealed.{Spells}
