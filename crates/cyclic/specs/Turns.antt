@@ -1,16 +1,29 @@
 -- One turn of each loop, and one step of the shifting rule.
-use Rattle.std.specs.Prelude.{◌≡◌, ℕ, zero, suc, ◌+◌, ◌-◌, ◌*◌, ◌/◌, ◌%◌, ◌^◌, ◌<◌, ◌≤◌, bit_and, bit_xor}
+use Rattle.std.specs.Prelude.{◌≡◌, ℕ, zero, suc, ◌+◌, ◌-◌, ◌*◌, ◌/◌, ◌%◌, ◌^◌, ◌<◌, ◌≤◌, bit_and, bit_xor, ◌≢◌}
 use Rattle.std.proofs.Common.{sym, ap₂, ◌∙◌, subst, pow-suc, lt_of_lt_of_le, mul_comm, mul-lt-mul_of_pos_right, div-lt_iff_lt-mul, zero-lt-suc, add-one, pow_pos, pow_mono, shl_exact, shl_lt, shr-shr, lit<}
 use Rattle.std.proofs.Math.Path.{ap}
 use native.Mathlib.Omega.{arith}
 use Rattle.std.proofs.Math.Pow.{split, high}
 use Rattle.std.proofs.lemmas.Nat.{and_mask, xor_lt}
-use Rattle.std.specs.Int.Bits.{xor_shifted, xor_self}
+use Rattle.std.specs.Int.Bits.{xor_shifted, xor_self, xor_zero_r}
 use Rattle.cyclic.specs.Polynomial.{scale, times_x, remainder}
 use Rattle.cyclic.specs.Generator.{Numbers, parity_bits, syndrome, Codeword}
 use Rattle.cyclic.specs.Linear.{remainder_step, remainder_lt, remainder_xor, remainder_small, remainder_double, remainder_multiple, multiple_remainder}
 use Rattle.cyclic.specs.Distance.{parity_is}
 use Rattle.cyclic.specs.Facts.{Holds}
+
+module _ (r g s : ℕ) where
+  pub times_x_keeps : s * 2 / 2 ^ r ≡ zero → times_x r g s ≡ s * 2
+  unfolding times_x scale
+  times_x_keeps e = ap (λ (q : ℕ). bit_xor (s * 2) (scale (q % 2) g)) e ∙ xor_zero_r (s * 2)
+
+  pub times_x_takes : s < 2 ^ r → s * 2 / 2 ^ r ≢ zero → times_x r g s ≡ bit_xor (s * 2) g
+  unfolding times_x scale
+  times_x_takes h ne =
+      let small : s * 2 / 2 ^ r < 2 =
+      (div-lt_iff_lt-mul (pow_pos r)).1 (subst (λ (x : ℕ). s * 2 < x) (mul_comm (2 ^ r) 2) (mul-lt-mul_of_pos_right h (zero-lt-suc 1))) in
+      let one : s * 2 / 2 ^ r ≡ 1 = omega arith in
+      ap (λ (q : ℕ). bit_xor (s * 2) (scale (q % 2) g)) one
 
 -- the bit that a remainder carries into x^r, and the generator times that bit
 module _ (r g s : ℕ) (h : s < 2 ^ r) where

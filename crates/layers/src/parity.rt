@@ -57,17 +57,17 @@ fn in_reach(found: Correction, reach: u32) -> Result<Correction, Fault>
 }
 
 impl<C: Code> Code for Parity<C> {
-    ghost n = { λ p. (parity_over (meaning C.Code.n C.Code.k C.Code.t C.Code.codeword C.Code.serves) p).n };
+    ghost n = { λ p. (parity_over (meaning C.n C.k C.t C.codeword C.serves) p).n };
 
-    ghost k = { λ p. (parity_over (meaning C.Code.n C.Code.k C.Code.t C.Code.codeword C.Code.serves) p).k };
+    ghost k = { λ p. (parity_over (meaning C.n C.k C.t C.codeword C.serves) p).k };
 
-    ghost t = { λ p. (parity_over (meaning C.Code.n C.Code.k C.Code.t C.Code.codeword C.Code.serves) p).t };
+    ghost t = { λ p. (parity_over (meaning C.n C.k C.t C.codeword C.serves) p).t };
 
-    ghost codeword = { λ p. (parity_over (meaning C.Code.n C.Code.k C.Code.t C.Code.codeword C.Code.serves) p).codeword };
+    ghost codeword = { λ p. (parity_over (meaning C.n C.k C.t C.codeword C.serves) p).codeword };
 
-    ghost serves = { λ p. (parity_over (meaning C.Code.n C.Code.k C.Code.t C.Code.codeword C.Code.serves) p).serves };
+    ghost serves = { λ p. (parity_over (meaning C.n C.k C.t C.codeword C.serves) p).serves };
 
-    ghost lawful = { λ c. parity_lawful (C.Code.lawful c.below) };
+    ghost lawful = { λ c. parity_lawful (C.lawful c.below) };
 
     fn shape(&self) -> Result<Shape, Fault> {
         let below = self.below.shape()?;

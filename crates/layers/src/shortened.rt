@@ -37,17 +37,17 @@ fn in_length(found: Correction, length: u32) -> Result<Correction, Fault>
 }
 
 impl<C: Code> Code for Shortened<C> {
-    ghost n = { λ s. (shortened_over (meaning C.Code.n C.Code.k C.Code.t C.Code.codeword C.Code.serves) s).n };
+    ghost n = { λ s. (shortened_over (meaning C.n C.k C.t C.codeword C.serves) s).n };
 
-    ghost k = { λ s. (shortened_over (meaning C.Code.n C.Code.k C.Code.t C.Code.codeword C.Code.serves) s).k };
+    ghost k = { λ s. (shortened_over (meaning C.n C.k C.t C.codeword C.serves) s).k };
 
-    ghost t = { λ s. (shortened_over (meaning C.Code.n C.Code.k C.Code.t C.Code.codeword C.Code.serves) s).t };
+    ghost t = { λ s. (shortened_over (meaning C.n C.k C.t C.codeword C.serves) s).t };
 
-    ghost codeword = { λ s. (shortened_over (meaning C.Code.n C.Code.k C.Code.t C.Code.codeword C.Code.serves) s).codeword };
+    ghost codeword = { λ s. (shortened_over (meaning C.n C.k C.t C.codeword C.serves) s).codeword };
 
-    ghost serves = { λ s. (shortened_over (meaning C.Code.n C.Code.k C.Code.t C.Code.codeword C.Code.serves) s).serves };
+    ghost serves = { λ s. (shortened_over (meaning C.n C.k C.t C.codeword C.serves) s).serves };
 
-    ghost lawful = { λ c. shorter_lawful (C.Code.lawful c.below) c.by };
+    ghost lawful = { λ c. shorter_lawful (C.lawful c.below) c.by };
 
     fn shape(&self) -> Result<Shape, Fault> {
         let below = self.below.shape()?;

@@ -69,7 +69,7 @@ pub fn compare<C: Code, D: Code>(
     other: D,
     others: &[Call],
 ) -> Comparison<C, D>
-    ensures law { Runs (meaning C.Code.n C.Code.k C.Code.t C.Code.codeword C.Code.serves one) (meaning D.Code.n D.Code.k D.Code.t D.Code.codeword D.Code.serves other) calls.now others.now (places_of result.first.report) (flips_of result.first.report) (places_of result.second.report) (flips_of result.second.report) }
+    ensures law { Runs (meaning C.n C.k C.t C.codeword C.serves one) (meaning D.n D.k D.t D.codeword D.serves other) calls.now others.now (places_of result.first.report) (flips_of result.first.report) (places_of result.second.report) (flips_of result.second.report) }
     ensures codes { (result.first.code ≡ one) × (result.second.code ≡ other) }
     ensures verdict { MatchBool result.equal (places_of result.first.report ≡ places_of result.second.report) (places_of result.first.report ≢ places_of result.second.report) }
 {

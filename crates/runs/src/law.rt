@@ -51,9 +51,9 @@ pub fn carry_both<E: Code + Drop, F: Code + Drop>(
     second: Trip<'_, F>,
     other: &mut [u8],
 ) -> (Result<usize, Fault>, Result<usize, Fault>)
-    ensures first { Carried (meaning E.Code.n E.Code.k E.Code.t E.Code.codeword E.Code.serves first.entry.code) first.entry.table.now first.entry.patterns.now buffer.old result.0 buffer.new }
-    ensures second { Carried (meaning F.Code.n F.Code.k F.Code.t F.Code.codeword F.Code.serves second.entry.code) second.entry.table.now second.entry.patterns.now other.old result.1 other.new }
-    ensures law { Carriages (meaning E.Code.n E.Code.k E.Code.t E.Code.codeword E.Code.serves first.entry.code) (meaning F.Code.n F.Code.k F.Code.t F.Code.codeword F.Code.serves second.entry.code) first.entry.table.now first.entry.patterns.now buffer.old result.0 buffer.new second.entry.table.now second.entry.patterns.now other.old result.1 other.new }
+    ensures first { Carried (meaning E.n E.k E.t E.codeword E.serves first.entry.code) first.entry.table.now first.entry.patterns.now buffer.old result.0 buffer.new }
+    ensures second { Carried (meaning F.n F.k F.t F.codeword F.serves second.entry.code) second.entry.table.now second.entry.patterns.now other.old result.1 other.new }
+    ensures law { Carriages (meaning E.n E.k E.t E.codeword E.serves first.entry.code) (meaning F.n F.k F.t F.codeword F.serves second.entry.code) first.entry.table.now first.entry.patterns.now buffer.old result.0 buffer.new second.entry.table.now second.entry.patterns.now other.old result.1 other.new }
 {
     let one = carry_trip(first, buffer);
     let two = carry_trip(second, other);
@@ -71,10 +71,10 @@ pub fn judge<C: Code, D: Code, E: Code + Drop, F: Code + Drop>(
 ) -> Judgement<C, D>
     ensures codes { (result.runs.first.code ≡ one.entry.code) × (result.runs.second.code ≡ other.entry.code) }
     ensures verdict { MatchBool result.runs.equal (places_of result.runs.first.report ≡ places_of result.runs.second.report) (places_of result.runs.first.report ≢ places_of result.runs.second.report) }
-    ensures first { Carried (meaning E.Code.n E.Code.k E.Code.t E.Code.codeword E.Code.serves first.entry.code) first.entry.table.now first.entry.patterns.now first_buffer.old result.first first_buffer.new }
-    ensures second { Carried (meaning F.Code.n F.Code.k F.Code.t F.Code.codeword F.Code.serves second.entry.code) second.entry.table.now second.entry.patterns.now second_buffer.old result.second second_buffer.new }
-    ensures law { Law (meaning C.Code.n C.Code.k C.Code.t C.Code.codeword C.Code.serves one.entry.code) (meaning D.Code.n D.Code.k D.Code.t D.Code.codeword D.Code.serves other.entry.code) one.entry.calls.now other.entry.calls.now (places_of result.runs.first.report) (flips_of result.runs.first.report) (places_of result.runs.second.report) (flips_of result.runs.second.report)
-        (meaning E.Code.n E.Code.k E.Code.t E.Code.codeword E.Code.serves first.entry.code) (meaning F.Code.n F.Code.k F.Code.t F.Code.codeword F.Code.serves second.entry.code) first.entry.table.now first.entry.patterns.now first_buffer.old result.first first_buffer.new second.entry.table.now second.entry.patterns.now second_buffer.old result.second second_buffer.new }
+    ensures first { Carried (meaning E.n E.k E.t E.codeword E.serves first.entry.code) first.entry.table.now first.entry.patterns.now first_buffer.old result.first first_buffer.new }
+    ensures second { Carried (meaning F.n F.k F.t F.codeword F.serves second.entry.code) second.entry.table.now second.entry.patterns.now second_buffer.old result.second second_buffer.new }
+    ensures law { Law (meaning C.n C.k C.t C.codeword C.serves one.entry.code) (meaning D.n D.k D.t D.codeword D.serves other.entry.code) one.entry.calls.now other.entry.calls.now (places_of result.runs.first.report) (flips_of result.runs.first.report) (places_of result.runs.second.report) (flips_of result.runs.second.report)
+        (meaning E.n E.k E.t E.codeword E.serves first.entry.code) (meaning F.n F.k F.t F.codeword F.serves second.entry.code) first.entry.table.now first.entry.patterns.now first_buffer.old result.first first_buffer.new second.entry.table.now second.entry.patterns.now second_buffer.old result.second second_buffer.new }
 {
     let Run { code, calls } = one;
     let Run {
