@@ -1,6 +1,6 @@
 -- How long a reply is, and that a buffer is left one outcome.
 use Rattle.std.proofs.Common.{◌≡◌, ℕ, ◌+◌, ◌^◌, ◌<◌, ◌≤◌, List, [], ◌∷◌, ◌++◌, length, get_or, drop, codes, sym, refl, ap, ◌∙◌, subst, inl, inr, ⊎_elim, zero-add, arith}
-use Rattle.std.specs.List.{AllByRecursion as All}
+use Rattle.std.specs.List.{AllByRecursion}
 use Rattle.std.proofs.ByRecursion.{All-append, All-weaker}
 use Rattle.std.proofs.lemmas.List.{append_assoc, append_cancel_right, length-append}
 use Rattle.std.proofs.lemmas.Bool.{cases_lt}
@@ -151,7 +151,7 @@ module _ (reply : Reply) {before : List ℕ} (room : length (reply_text reply) �
 -- ---- replies are told apart by their lines
 
 abbrev NoFeed : List ℕ → Type 0
-NoFeed text = All (λ b. b ≡ line_feed → ⊥) text
+NoFeed text = AllByRecursion (λ b. b ≡ line_feed → ⊥) text
 
 field_no_feed : (base x : ℕ) → 2 ≤ base → NoFeed (field base x)
 field_no_feed base x two = (

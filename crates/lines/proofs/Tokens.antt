@@ -1,7 +1,7 @@
 -- Where a text is cut, and that it is cut there only.
 use Rattle.std.proofs.Common.{◌≡◌, ℕ, zero, suc, ◌+◌, ◌<◌, ◌≤◌, ltb, ◌⊎◌, List, [], ◌∷◌, ◌++◌, map, length, get_or, take, drop, sym, refl, ap, ◌∙◌, subst, inl, inr, ⊎_elim, arith}
 use Rattle.std.specs.Int.Digits.{AllBelowBase, number_from_digits}
-use Rattle.std.specs.List.{AllByRecursion as All}
+use Rattle.std.specs.List.{AllByRecursion}
 use Rattle.std.proofs.ByRecursion.{All-from_get_or, All-map, All-weaker}
 use Rattle.std.proofs.lemmas.List.{length-map, length-take-le, get_or-take, take-append-drop, drop_more}
 use Rattle.std.proofs.lemmas.Bool.{cases_eq, cases_lt, cond_both}
@@ -56,10 +56,10 @@ digit_injective : (d e : ℕ) → digit d ≡ digit e → d ≡ e
 digit_injective d e = grind (arith, nat_tests)
 
 -- a digit's byte is above the space, and above every control byte
-pub writes_high : {base most : ℕ} {text : List ℕ} {x : ℕ} → Writes base most text x → All (λ b. 48 ≤ b) text
-writes_high w = subst (All (λ b. 48 ≤ b)) (sym w.spelled) (All-map (λ b. 48 ≤ b) digit w.digits (each w.digits))
+pub writes_high : {base most : ℕ} {text : List ℕ} {x : ℕ} → Writes base most text x → AllByRecursion (λ b. 48 ≤ b) text
+writes_high w = subst (AllByRecursion (λ b. 48 ≤ b)) (sym w.spelled) (All-map (λ b. 48 ≤ b) digit w.digits (each w.digits))
   where
-    each : (ds : List ℕ) → All (λ d. 48 ≤ digit d) ds
+    each : (ds : List ℕ) → AllByRecursion (λ d. 48 ≤ digit d) ds
     each [] = tt
     each (d ∷ ds) = (digit_high d, each ds)
 

@@ -1,6 +1,6 @@
 -- The text of a reply, and writing it into a buffer.
 use Rattle.std.specs.Prelude.{◌≡◌, ℕ, ◌<◌, ◌≤◌, List, [], ◌∷◌, ◌++◌, length, drop, codes, Result, ◌≢◌}
-use Rattle.std.specs.List.{AllByRecursion as All}
+use Rattle.std.specs.List.{AllByRecursion}
 use Rattle.codes.specs.declared.fault.Fault.{Fault}
 use Rattle.codes.specs.declared.fault.Layer.TheVariants.{Table}
 use Rattle.codes.specs.Fault.{number, Test, test, Transition}
@@ -43,5 +43,5 @@ OneWriting = (reply : Reply) (before : List ℕ) → One {A = Result ℕ Fault �
 
 -- A reply is one line, and no other reply has the same.
 pub record Told : Type 0 where
-  pub one_line : (reply : Reply) → All (λ b. b ≢ line_feed) (reply_words reply)
+  pub one_line : (reply : Reply) → AllByRecursion (λ b. b ≢ line_feed) (reply_words reply)
   pub apart : (reply other : Reply) → reply_text reply ≡ reply_text other → reply ≡ other

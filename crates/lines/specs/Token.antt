@@ -1,7 +1,7 @@
 -- The parts of a line.
 use Rattle.std.specs.Prelude.{◌≡◌, ℕ, List, ◌∷◌, ◌++◌, Option, MatchOption, ◌≢◌}
 use Rattle.std.specs.Borrow.{Bor}
-use Rattle.std.specs.List.{AllByRecursion as All}
+use Rattle.std.specs.List.{AllByRecursion}
 use Rattle.lines.specs.declared.token.Token.{Token}
 use Rattle.lines.specs.declared.token.Token.TheVariants.{Name, Place, Word}
 use Rattle.lines.specs.Number.{Writes}
@@ -16,7 +16,7 @@ TokenWrites (Place text) x = Writes 10 3 text.now x
 TokenWrites (Word text) x = Writes 16 11 text.now x
 
 abbrev pub NoSpace : List ℕ → Type 0
-NoSpace text = All (λ b. b ≢ space) text
+NoSpace text = AllByRecursion (λ b. b ≢ space) text
 
 -- what follows a space at the front of the text
 abbrev pub AfterSpace : List ℕ → Option (Bor (List ℕ)) → Type 0

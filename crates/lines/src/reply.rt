@@ -2,7 +2,7 @@
 ghost use Rattle.std.specs.Prelude.{◌≡◌, ◌+◌, ◌≤◌, [], ◌∷◌, length};
 ghost use Rattle.codes.specs.declared.fault.Cause.TheVariants.{TooShort};
 ghost use Rattle.codes.specs.declared.fault.Layer.TheVariants.{Table};
-ghost use Rattle.codes.specs.Fault.{fault, number as cause-number};
+ghost use Rattle.codes.specs.Fault.{fault, number as cause_number};
 ghost use Rattle.lines.specs.Buffer.{Put};
 ghost use Rattle.lines.specs.Number.{base_number};
 ghost use Rattle.lines.specs.Reply.{line_feed, field, reply_words, reply_text, Written, OneWriting, Told};
@@ -82,8 +82,8 @@ fn put_bits(bits: u64, buffer: &mut [u8], at: usize) -> usize
 
 /// Puts the number of a cause behind a space.
 fn put_cause(cause: Cause, buffer: &mut [u8], at: usize) -> usize
-    requires { at + length (field 10 (cause-number cause)) ≤ length buffer.old }
-    ensures { Put buffer.old at (field 10 (cause-number cause)) buffer.new result }
+    requires { at + length (field 10 (cause_number cause)) ≤ length buffer.old }
+    ensures { Put buffer.old at (field 10 (cause_number cause)) buffer.new result }
 {
     put_field(Base::Decimal, u64::from(cause.number()), buffer, at)
 }
