@@ -15,6 +15,7 @@ use crate::flips::{beyond_reach, within_reach};
 use crate::plain::{G23, Q31, Q41};
 use crate::size::Size;
 use cyclic::Cyclic;
+use std::process::ExitCode;
 
 /// The three codes by themselves. Answers how many words were compared.
 fn bare(rt: &HostRuntime, size: &Size) -> anyhow::Result<u64> {
@@ -57,10 +58,13 @@ fn run(rt: &HostRuntime) -> anyhow::Result<()> {
     Ok(())
 }
 
-fn main(rt: HostRuntime) -> anyhow::Result<()> {
-    let ended = run(&rt);
-    if let Err(error) = &ended {
-        eprintln!(rt; "survey: {error}")?;
+fn main(rt: HostRuntime) -> ExitCode {
+    match run(&rt) {
+        Ok(()) => ExitCode::SUCCESS,
+        Err(error) => {
+            // Where standard error is closed too, nobody is left to tell.
+            let _ = eprintln!(rt; "survey: {error}");
+            ExitCode::FAILURE
+        }
     }
-    ended
 }
