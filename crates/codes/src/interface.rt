@@ -21,7 +21,7 @@ pub struct Correction {
     pub pattern: u64,
 }
 
-/// A block code over bits. What it means are its five ghost members; what stands above a code knows no more of it than this.
+/// A block code over bits. What it means are its first five ghost members, and the sixth is the laws that they keep; what stands above a code knows no more of it than this.
 pub trait Code {
     /// How many bits a word has.
     ghost n: { Self → ℕ };

@@ -2,7 +2,7 @@
 use crate::single::{FIVE, FOUR, refused};
 use codes::fault::Fault;
 use cyclic::Cyclic;
-use link::receiver::Receiver;
+use link::receiver::{Answer, Receiver};
 use link::report::Place;
 use link::sealed::Sealed;
 use runs::calls::Call;
@@ -136,10 +136,10 @@ pub fn repaired_report(words: &[u64; WORDS]) -> Result<Receiver<Cyclic>, Fault> 
 
 /// The gap is settled by a repeat.
 fn repaired(rt: &impl Print, words: &[u64; WORDS]) -> anyhow::Result<()> {
-    match repaired_report(words) {
-        Ok(receiver) => {
-            if let Some(Place::Settled(_)) = receiver.place(SPOILED) {
-                println!(rt; "  repeated: place {SPOILED} is settled")?;
+    match heard(words, FIVE) {
+        Ok(mut receiver) => {
+            if let Ok(Answer::Settled { place, .. }) = receiver.repeat(SPOILED, words[SPOILED]) {
+                println!(rt; "  repeated: place {place} is settled")?;
             }
             let sealed = receiver.seal();
             spell(rt, &sealed)?;
