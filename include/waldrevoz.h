@@ -11,8 +11,8 @@
  *    where there is none), and those that are read hold values; a pointer with the number 0 is still not NULL;
  *  - what a call writes through one pointer overlaps nothing that another pointer of the same call reaches.
  *
- * Link libcapi.a (rt staticlib capi) and the toolchain's librattle_c.a. No call allocates, keeps a pointer or has state
- * of its own, so calls may be made from several threads at once. */
+ * Link libcapi.a, which `rt lib` in crates/capi makes in out/. No call allocates, keeps a pointer or has state of its own,
+ * so calls may be made from several threads at once. */
 #ifndef WALDREVOZ_H
 #define WALDREVOZ_H
 
