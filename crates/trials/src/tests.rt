@@ -3,6 +3,7 @@ use codes::fault::{Cause, Fault, Layer};
 use cyclic::Cyclic;
 use layers::parity::Parity;
 use layers::shortened::Shortened;
+use std::fmt::Debug;
 use std::test::Fail;
 
 mod comparing;
@@ -11,6 +12,14 @@ mod reading;
 mod receiving;
 mod sending;
 mod spelling;
+
+/// Fails where two values differ. A helper says so by its result: an assert would ask for leave to end the process.
+fn check_eq<T: Debug + PartialEq + Drop>(found: T, wanted: T) -> Result<(), Fail> {
+    if found == wanted {
+        return Ok(());
+    }
+    Err(Fail::new(format_args!("found {found:?}, wanted {wanted:?}")))
+}
 
 /// A refusal at a place.
 fn at(cause: Cause, place: usize) -> Fault {

@@ -2,7 +2,6 @@
 use super::*;
 use listings::listing::Listing;
 use listings::partial::PartialLine;
-use std::process::Abort;
 
 /// A line, and the line that answers it, without its line feed.
 type Row = (&'static str, &'static str);
@@ -98,44 +97,44 @@ const BAD_HEADINGS: [&str; 12] = [
 ];
 
 /// The answer to a line, with its line feed, and the rest of the buffer as it was.
-fn says(rt: &impl Abort, listing: &mut Listing, line: &[u8], answer: &str) -> Result<(), Fail> {
+fn says(listing: &mut Listing, line: &[u8], answer: &str) -> Result<(), Fail> {
     let mut buffer = [b'#'; 40];
     let count = listing.line(line, &mut buffer)?;
-    assert!(rt; count >= 1 && count <= 40);
-    assert!(rt; &buffer[0..count - 1] == answer.as_bytes());
-    assert!(rt; buffer[count - 1] == b'\n');
+    check_eq(count >= 1 && count <= 40, true)?;
+    check_eq(&buffer[0..count - 1] == answer.as_bytes(), true)?;
+    check_eq(buffer[count - 1] == b'\n', true)?;
     for byte in buffer[count..].iter() {
-        assert!(rt; *byte == b'#');
+        check_eq(*byte == b'#', true)?;
     }
     Ok(())
 }
 
-fn dialogue(rt: &impl Abort, heading: &str, rows: &[Row]) -> Result<(), Fail> {
+fn dialogue(heading: &str, rows: &[Row]) -> Result<(), Fail> {
     let mut listing = Listing::open(heading.as_bytes())?;
     for row in rows.iter() {
-        says(rt, &mut listing, row.0.as_bytes(), row.1)?;
+        says(&mut listing, row.0.as_bytes(), row.1)?;
     }
     Ok(())
 }
 
 #[test]
 fn codes_and_layers(rt: HostRuntime) -> Result<(), Fail> {
-    dialogue(&rt, "G23", &G23)?;
-    dialogue(&rt, "Q31", &Q31)?;
-    dialogue(&rt, "Q41", &Q41)?;
-    dialogue(&rt, "G23+P", &G23_PARITY)?;
-    dialogue(&rt, "Q31+P", &Q31_PARITY)?;
-    dialogue(&rt, "Q41+P", &Q41_PARITY)
+    dialogue("G23", &G23)?;
+    dialogue("Q31", &Q31)?;
+    dialogue("Q41", &Q41)?;
+    dialogue("G23+P", &G23_PARITY)?;
+    dialogue("Q31+P", &Q31_PARITY)?;
+    dialogue("Q41+P", &Q41_PARITY)
 }
 
 #[test]
 fn bad_lines(rt: HostRuntime) -> Result<(), Fail> {
     let mut listing = Listing::open(b"G23")?;
     for line in BAD.iter() {
-        says(&rt, &mut listing, line.as_bytes(), "NO 13")?;
+        says(&mut listing, line.as_bytes(), "NO 13")?;
     }
-    says(&rt, &mut listing, b"W \xff", "NO 13")?;
-    says(&rt, &mut listing, b"W 0", "OK 0 0 0")
+    says(&mut listing, b"W \xff", "NO 13")?;
+    says(&mut listing, b"W 0", "OK 0 0 0")
 }
 
 #[test]
@@ -159,9 +158,9 @@ fn full_listing(rt: HostRuntime) -> Result<(), Fail> {
     for _ in 0..256 {
         hears(&mut listing, b"W ae3")?;
     }
-    says(&rt, &mut listing, b"W ae3", "NO 5")?;
-    says(&rt, &mut listing, b"C", "CLEAR")?;
-    says(&rt, &mut listing, b"W ae3", "OK 0 1 0")
+    says(&mut listing, b"W ae3", "NO 5")?;
+    says(&mut listing, b"C", "CLEAR")?;
+    says(&mut listing, b"W ae3", "OK 0 1 0")
 }
 
 /// A buffer of 31 bytes is refused before the line is looked at, and nothing is heard.
@@ -176,7 +175,7 @@ fn short_buffer(rt: HostRuntime) -> Result<(), Fail> {
     assert_eq!(rt; listing.line(b"W ae3", &mut buffer), Err(short));
     assert_eq!(rt; listing.line(b"?", &mut buffer), Err(short));
     assert!(rt; buffer == [b'#'; 31]);
-    says(&rt, &mut listing, b"W ae3", "OK 0 1 0")
+    says(&mut listing, b"W ae3", "OK 0 1 0")
 }
 
 /// Of a long line only the front is kept, which is bad as the line is.
@@ -189,5 +188,5 @@ fn long_line(rt: HostRuntime) -> Result<(), Fail> {
     }
     assert!(rt; line.line() == b"W 0000000000000000".as_slice());
     let mut listing = Listing::open(b"Q41")?;
-    says(&rt, &mut listing, line.line(), "NO 13")
+    says(&mut listing, line.line(), "NO 13")
 }

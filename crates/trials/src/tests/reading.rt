@@ -3,7 +3,6 @@ use super::*;
 use records::layout::Kind;
 use records::lookup::{door_time, travel_time};
 use records::reader::Reader;
-use std::process::Abort;
 
 /// A record of kind 9, travel times of two floors (4.1 s and 6.3 s), and the door time of one (5.5 s).
 const TABLE: [u8; 19] = [1, 0, 9, 0, 7, 4, 0, 1, 0, 41, 0, 63, 0, 2, 0, 2, 0, 55, 0];
@@ -455,26 +454,27 @@ fn count_records(bytes: &[u8]) -> (usize, Option<Fault>) {
     (0, None)
 }
 
-fn row_holds(rt: &impl Abort, row: Row) {
-    assert!(rt; row.size <= 19 && row.at < 19);
+fn row_holds(row: Row) -> Result<(), Fail> {
+    check_eq(row.size <= 19 && row.at < 19, true)?;
     let mut bytes = TABLE;
     bytes[row.at] = row.byte;
     let table = &bytes[0..row.size];
     let (count, refused) = count_records(table);
-    assert_eq!(rt; count, row.records);
+    check_eq(count, row.records)?;
     match row.fault {
-        Some(place) => assert_eq!(rt; refused, Some(at(Cause::BadRecord, place))),
-        None => assert_eq!(rt; refused, None),
+        Some(place) => check_eq(refused, Some(at(Cause::BadRecord, place)))?,
+        None => check_eq(refused, None)?,
     }
-    assert_eq!(rt; travel_time(table, 1), row.travel.answer());
-    assert_eq!(rt; door_time(table, 0), row.door.answer());
+    check_eq(travel_time(table, 1), row.travel.answer())?;
+    check_eq(door_time(table, 0), row.door.answer())
 }
 
 #[test]
-fn cut_and_spoiled(rt: HostRuntime) {
+fn cut_and_spoiled() -> Result<(), Fail> {
     for row in ROWS.iter() {
-        row_holds(&rt, *row);
+        row_holds(*row)?;
     }
+    Ok(())
 }
 
 /// Kind, place and payload, floors past the last entry, and the same refusal twice.

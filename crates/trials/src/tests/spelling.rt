@@ -4,7 +4,6 @@ use codes::interface::Code;
 use link::receiver::Receiver;
 use link::sealed::Sealed;
 use runs::transport::carry;
-use std::process::Abort;
 use tables::sender::send;
 
 /// A sealed report over G23 of these words.
@@ -17,45 +16,47 @@ fn heard(words: &[u64]) -> Sealed<Cyclic> {
 }
 
 /// Spelling is refused, and leaves the buffer as it was.
-fn refuses<C: Code + Drop>(rt: &impl Abort, sealed: &Sealed<C>, cause: Cause, place: usize) {
+fn refuses<C: Code + Drop>(sealed: &Sealed<C>, cause: Cause, place: usize) -> Result<(), Fail> {
     let mut buffer = [7; 2];
-    assert_eq!(rt; sealed.spell(&mut buffer), Err(at(cause, place)));
-    assert_eq!(rt; buffer, [7, 7]);
+    check_eq(sealed.spell(&mut buffer), Err(at(cause, place)))?;
+    check_eq(buffer, [7, 7])
 }
 
 #[test]
-fn there_and_back(rt: HostRuntime) {
+fn there_and_back(rt: HostRuntime) -> Result<(), Fail> {
     let mut words = [0; 4];
     assert_eq!(rt; send(&Cyclic::g23(), &[1, 2, 0xff], &mut words), Ok(4));
     let sealed = heard(&words);
     let mut buffer = [7; 5];
     assert_eq!(rt; sealed.spell(&mut buffer), Ok(3));
     assert_eq!(rt; buffer, [1, 2, 0xff, 7, 7]);
-    refuses(&rt, &sealed, Cause::TooShort, 0);
+    refuses(&sealed, Cause::TooShort, 0)?;
+    Ok(())
 }
 
 /// No place; a bit past the end of the stream, the lowest and the highest one; and a place too many.
 #[test]
 fn no_table(rt: HostRuntime) -> Result<(), Fail> {
     let code = Cyclic::g23();
-    refuses(&rt, &heard(&[]), Cause::NotATable, 0);
-    refuses(&rt, &heard(&[0, code.encode(0x10)?]), Cause::NotATable, 0);
-    refuses(&rt, &heard(&[0, code.encode(0x800)?]), Cause::NotATable, 0);
-    refuses(&rt, &heard(&[0xae3, 0x2868a, 0]), Cause::NotATable, 0);
+    refuses(&heard(&[]), Cause::NotATable, 0)?;
+    refuses(&heard(&[0, code.encode(0x10)?]), Cause::NotATable, 0)?;
+    refuses(&heard(&[0, code.encode(0x800)?]), Cause::NotATable, 0)?;
+    refuses(&heard(&[0xae3, 0x2868a, 0]), Cause::NotATable, 0)?;
     Ok(())
 }
 
 /// A gap, no message bits, and a code that is out of service.
 #[test]
-fn no_messages(rt: HostRuntime) {
+fn no_messages() -> Result<(), Fail> {
     let mut receiver = Receiver::new(Cyclic::q31());
     let _ = receiver.offer(0);
     let _ = receiver.offer(0xf);
-    refuses(&rt, &receiver.seal(), Cause::GapInReport, 1);
+    refuses(&receiver.seal(), Cause::GapInReport, 1)?;
     let nothing = Shortened::over(Cyclic::g23(), 12);
-    refuses(&rt, &Receiver::new(nothing).seal(), Cause::NoMessageBits, 0);
+    refuses(&Receiver::new(nothing).seal(), Cause::NoMessageBits, 0)?;
     let twice = Parity::over(Parity::over(Cyclic::q41()));
-    refuses(&rt, &Receiver::new(twice).seal(), Cause::OutOfService, 0);
+    refuses(&Receiver::new(twice).seal(), Cause::OutOfService, 0)?;
+    Ok(())
 }
 
 /// Four bits are turned over in each word.
