@@ -455,7 +455,9 @@ fn count_records(bytes: &[u8]) -> (usize, Option<Fault>) {
 }
 
 fn row_holds(row: Row) -> Result<(), Fail> {
-    check_eq(row.size <= 19 && row.at < 19, true)?;
+    if row.size > 19 || row.at >= 19 {
+        return Err(Fail::new("the row is past the table"));
+    }
     let mut bytes = TABLE;
     bytes[row.at] = row.byte;
     let table = &bytes[0..row.size];
