@@ -9,10 +9,6 @@ pub record Meaning : Type 0 where
   pub codeword : ℕ → Bool
   pub serves : Bool
 
--- the five parts of the code `c`
-abbrev pub meaning : {S : Type 0} → (S → ℕ) → (S → ℕ) → (S → ℕ) → (S → ℕ → Bool) → (S → Bool) → S → Meaning
-meaning n k t codeword serves c = record { n = n c; k = k c; t = t c; codeword = codeword c; serves = serves c }
-
 -- in how many bits two words differ; their sum is taken bit by bit, without carry
 abbrev pub distance : ℕ → ℕ → ℕ
 distance v w = count_ones (bit_xor v w)

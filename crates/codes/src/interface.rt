@@ -1,6 +1,6 @@
 //! What every code answers, and what it owes.
 ghost use Rattle.std.specs.Prelude.{◌≡◌, ℕ, ◌^◌, ◌<◌, ◌≤◌, Bool, MatchBool};
-ghost use Rattle.codes.specs.Meaning.{meaning, Lawful};
+ghost use Rattle.codes.specs.Meaning.{Meaning, Lawful};
 ghost use Rattle.codes.specs.Interface.{Shaped, Encoded, Corrected, OneAnswer};
 
 use crate::fault::Fault;
@@ -21,36 +21,25 @@ pub struct Correction {
     pub pattern: u64,
 }
 
-/// A block code over bits. What it means are its first five ghost members, and the sixth is the laws that they keep; what stands above a code knows no more of it than this.
+/// A block code over bits. What stands above a code knows no more of it than what it means and that this is lawful.
 pub trait Code {
-    /// How many bits a word has.
-    ghost n: { Self → ℕ };
-
-    /// How many of them are the message.
-    ghost k: { Self → ℕ };
-
-    /// How many flips can be taken back.
-    ghost t: { Self → ℕ };
-
-    /// The set of codewords.
-    ghost codeword: { Self → ℕ → Bool };
-
-    /// Whether the code is in service: out of service it refuses every call.
-    ghost serves: { Self → Bool };
+    /// What the code means: its length n, its number k of message bits, its reach t, its set of codewords, and whether it is in service.
+    /// Out of service it refuses every call.
+    ghost means: { Self → Meaning };
 
     /// n, k and t.
     fn shape(&self) -> Result<Shape, Fault>
-        ensures { Shaped (meaning n k t codeword serves self.now) result };
+        ensures { Shaped (means self.now) result };
 
     /// The codeword of a message.
     fn encode(&self, message: u64) -> Result<u64, Fault>
-        ensures { Encoded (meaning n k t codeword serves self.now) message result };
+        ensures { Encoded (means self.now) message result };
 
     /// The one codeword within reach of a word, with its message and the pattern.
     fn correct(&self, word: u64) -> Result<Correction, Fault>
-        ensures { Corrected (meaning n k t codeword serves self.now) word result };
+        ensures { Corrected (means self.now) word result };
 
-    ghost lawful: { (c : Self) → Lawful (meaning n k t codeword serves c) };
+    ghost lawful: { (c : Self) → Lawful (means c) };
 }
 
 /// What a number has above its lowest bits.

@@ -1,6 +1,5 @@
 //! Correcting a list of words in place.
 ghost use Rattle.std.specs.Prelude.{◌≡◌, None};
-ghost use Rattle.codes.specs.Meaning.{meaning};
 ghost use Rattle.codes.specs.Slots.{slot, verdict_number, Filled, Listed, OneList};
 
 use crate::fault::Cause;
@@ -41,7 +40,7 @@ impl Slot {
 
 /// The slot with its word corrected. A refused word leaves message 0 and pattern 0.
 fn filled<C: Code>(code: &C, slot: Slot) -> Slot
-    ensures { Filled (meaning C.n C.k C.t C.codeword C.serves code.now) slot result }
+    ensures { Filled (C.means code.now) slot result }
 {
     let word = slot.word;
     match code.correct(word) {
@@ -60,7 +59,7 @@ fn filled<C: Code>(code: &C, slot: Slot) -> Slot
 
 /// Corrects the word of each slot. It never refuses: each slot has a verdict of its own.
 pub fn correct_list<C: Code>(code: &C, slots: &mut [Slot])
-    ensures listed { Listed (meaning C.n C.k C.t C.codeword C.serves code.now) slots.old slots.new }
+    ensures listed { Listed (C.means code.now) slots.old slots.new }
     ensures one { OneList }
 {
     for slot in slots.iter_mut() {

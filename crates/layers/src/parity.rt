@@ -1,7 +1,6 @@
 //! A code with one more bit, lowest, that makes the number of ones even.
 ghost use Rattle.std.specs.Prelude.{◌≡◌, ◌^◌, ◌<◌, ◌≤◌, MatchResult, count_ones};
 ghost use Rattle.codes.specs.Fault.{fault};
-ghost use Rattle.codes.specs.Meaning.{meaning};
 ghost use Rattle.codes.specs.declared.fault.Cause.TheVariants.{BeyondReach};
 ghost use Rattle.codes.specs.declared.fault.Layer.TheVariants.{Word};
 ghost use Rattle.layers.specs.Parity.{with_parity, append_parity, raise, parity_over};
@@ -19,7 +18,7 @@ pub struct Parity<C> {
 impl<C: Code> Parity<C> {
     /// The layer over a code.
     pub fn over(below: C) -> Parity<C>
-        ensures { parity_over (meaning C.n C.k C.t C.codeword C.serves) result ≡ with_parity (meaning C.n C.k C.t C.codeword C.serves below) }
+        ensures { parity_over C.means result ≡ with_parity (C.means below) }
     {
         Parity { below }
     }
@@ -57,15 +56,7 @@ fn in_reach(found: Correction, reach: u32) -> Result<Correction, Fault>
 }
 
 impl<C: Code> Code for Parity<C> {
-    ghost n = { λ p. (parity_over (meaning C.n C.k C.t C.codeword C.serves) p).n };
-
-    ghost k = { λ p. (parity_over (meaning C.n C.k C.t C.codeword C.serves) p).k };
-
-    ghost t = { λ p. (parity_over (meaning C.n C.k C.t C.codeword C.serves) p).t };
-
-    ghost codeword = { λ p. (parity_over (meaning C.n C.k C.t C.codeword C.serves) p).codeword };
-
-    ghost serves = { λ p. (parity_over (meaning C.n C.k C.t C.codeword C.serves) p).serves };
+    ghost means = { parity_over C.means };
 
     ghost lawful = { λ c. parity_lawful (C.lawful c.below) };
 

@@ -1,7 +1,6 @@
 //! A code whose highest message bits are always 0, and are left out.
 ghost use Rattle.std.specs.Prelude.{◌≡◌, ◌^◌, ◌<◌, ◌≤◌, MatchResult};
 ghost use Rattle.codes.specs.Fault.{fault};
-ghost use Rattle.codes.specs.Meaning.{meaning};
 ghost use Rattle.codes.specs.declared.fault.Cause.TheVariants.{BeyondReach};
 ghost use Rattle.codes.specs.declared.fault.Layer.TheVariants.{Word};
 ghost use Rattle.layers.specs.Shortened.{shorten, shortened_over};
@@ -20,7 +19,7 @@ pub struct Shortened<C> {
 impl<C: Code> Shortened<C> {
     /// The layer over a code.
     pub fn over(below: C, by: u32) -> Shortened<C>
-        ensures { shortened_over (meaning C.n C.k C.t C.codeword C.serves) result ≡ shorten (meaning C.n C.k C.t C.codeword C.serves below) by }
+        ensures { shortened_over C.means result ≡ shorten (C.means below) by }
     {
         Shortened { below, by }
     }
@@ -37,15 +36,7 @@ fn in_length(found: Correction, length: u32) -> Result<Correction, Fault>
 }
 
 impl<C: Code> Code for Shortened<C> {
-    ghost n = { λ s. (shortened_over (meaning C.n C.k C.t C.codeword C.serves) s).n };
-
-    ghost k = { λ s. (shortened_over (meaning C.n C.k C.t C.codeword C.serves) s).k };
-
-    ghost t = { λ s. (shortened_over (meaning C.n C.k C.t C.codeword C.serves) s).t };
-
-    ghost codeword = { λ s. (shortened_over (meaning C.n C.k C.t C.codeword C.serves) s).codeword };
-
-    ghost serves = { λ s. (shortened_over (meaning C.n C.k C.t C.codeword C.serves) s).serves };
+    ghost means = { shortened_over C.means };
 
     ghost lawful = { λ c. shorter_lawful (C.lawful c.below) c.by };
 

@@ -2,7 +2,6 @@
 ghost use Rattle.std.specs.Prelude.{◌≡◌, [], ◌∷◌, ◌++◌, length, slice_set};
 ghost use Rattle.std.specs.List.{slice_get};
 ghost use Rattle.codes.specs.Fault.{fault};
-ghost use Rattle.codes.specs.Meaning.{meaning};
 ghost use Rattle.link.specs.Report.{places_of, flips_of};
 ghost use Rattle.link.specs.Receiver.{Offered, Repeated, Keeps, place_by, flips_by, OneOffer, OneRepeat};
 ghost use Rattle.link.specs.Steps.{AnsweredAt};
@@ -63,7 +62,7 @@ fn at_place(refusal: Fault, place: usize) -> Fault
 
 /// The answer to a word for a place. A word beyond reach leaves a gap there; what else the code refuses goes up.
 fn answer_at<C: Code>(code: &C, word: u64, place: usize) -> Result<Answer, Fault>
-    ensures { AnsweredAt (meaning C.n C.k C.t C.codeword C.serves code.now) word place result }
+    ensures { AnsweredAt (C.means code.now) word place result }
 {
     match code.correct(word) {
         Ok(found) => Ok(Answer::Settled {
@@ -103,7 +102,7 @@ impl<C: Code> Receiver<C> {
 
     /// Hears a word for the next place, which is settled by it or a gap.
     pub fn offer(&mut self, word: u64) -> Result<Answer, Fault>
-        ensures answer { Offered (meaning C.n C.k C.t C.codeword C.serves self.old.code) word (places_of self.old.report) result (places_of self.new.report) }
+        ensures answer { Offered (C.means self.old.code) word (places_of self.old.report) result (places_of self.new.report) }
         ensures flips { Keeps result (flips_of self.old.report) (λ a. flips_of self.old.report ++ flips_by a ∷ []) (flips_of self.new.report) }
         ensures same { self.new.code ≡ self.old.code }
         ensures one { OneOffer }
@@ -120,7 +119,7 @@ impl<C: Code> Receiver<C> {
 
     /// Hears a word once more for a place that is a gap.
     pub fn repeat(&mut self, place: usize, word: u64) -> Result<Answer, Fault>
-        ensures answer { Repeated (meaning C.n C.k C.t C.codeword C.serves self.old.code) place word (places_of self.old.report) result (places_of self.new.report) }
+        ensures answer { Repeated (C.means self.old.code) place word (places_of self.old.report) result (places_of self.new.report) }
         ensures flips { Keeps result (flips_of self.old.report) (λ a. slice_set (flips_of self.old.report) place (flips_by a)) (flips_of self.new.report) }
         ensures same { self.new.code ≡ self.old.code }
         ensures one { OneRepeat }

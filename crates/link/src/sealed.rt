@@ -1,7 +1,6 @@
 //! A report that hears no more: it is spelled and closed.
 ghost use Rattle.std.specs.Prelude.{◌≡◌, ◌*◌, ◌/◌, ◌≤◌, length, if◌then◌else◌, Some, None, sum, nat_lt};
 ghost use Rattle.std.specs.List.{slice_get};
-ghost use Rattle.codes.specs.Meaning.{meaning};
 ghost use Rattle.link.specs.Report.{places_of, flips_of, settled_in};
 ghost use Rattle.link.specs.Sealed.{Spells, OneSpell, line_figure};
 
@@ -41,7 +40,7 @@ impl<C: Code + Drop> Sealed<C> {
 
     /// Writes the table whose messages the places hold, and answers how many bytes. A refusal leaves the buffer as it was.
     pub fn spell(&self, buffer: &mut [u8]) -> Result<usize, Fault>
-        ensures spells { Spells (meaning C.n C.k C.t C.codeword C.serves self.now.code) (places_of self.now.report) buffer.old result buffer.new }
+        ensures spells { Spells (C.means self.now.code) (places_of self.now.report) buffer.old result buffer.new }
         ensures one { OneSpell }
     {
         one_spell();
@@ -54,7 +53,7 @@ impl<C: Code + Drop> Sealed<C> {
 
     /// The line figure: flips in a thousand bits of the settled places.
     pub fn close(self) -> Option<u64>
-        ensures { result ≡ line_figure (meaning C.n C.k C.t C.codeword C.serves self.code) (settled_in (places_of self.report)) (sum (flips_of self.report)) }
+        ensures { result ≡ line_figure (C.means self.code) (settled_in (places_of self.report)) (sum (flips_of self.report)) }
     {
         match self.code.shape() {
             Ok(shape) => per_thousand(shape.length, self.report.settled(), self.report.flips()),

@@ -42,15 +42,7 @@ impl Choice {
 }
 
 impl Code for Choice {
-    ghost n = { λ c. (choice_means c).n };
-
-    ghost k = { λ c. (choice_means c).k };
-
-    ghost t = { λ c. (choice_means c).t };
-
-    ghost codeword = { λ c. (choice_means c).codeword };
-
-    ghost serves = { λ c. (choice_means c).serves };
+    ghost means = { choice_means };
 
     ghost lawful = { λ c. choice_lawful c };
 

@@ -1,6 +1,5 @@
 //! Running lists of calls, and comparing two runs.
 ghost use Rattle.std.specs.Prelude.{◌≡◌, ℕ, List, MatchBool, sum, ◌≢◌};
-ghost use Rattle.codes.specs.Meaning.{meaning};
 ghost use Rattle.link.specs.Report.{places_of, flips_of, settled_in};
 ghost use Rattle.runs.specs.Book.{book, noted, Demanded, Tally};
 ghost use Rattle.runs.specs.Law.{Runs};
@@ -20,8 +19,8 @@ pub enum Call {
 fn make<C: Code>(receiver: &mut Receiver<C>, call: Call)
     ensures same { receiver.new.code ≡ receiver.old.code }
     ensures follows { (ws : List ℕ) →
-        Demanded (meaning C.n C.k C.t C.codeword C.serves receiver.old.code) ws (places_of receiver.old.report) (flips_of receiver.old.report) →
-        Demanded (meaning C.n C.k C.t C.codeword C.serves receiver.old.code) (noted (meaning C.n C.k C.t C.codeword C.serves receiver.old.code) ws call) (places_of receiver.new.report) (flips_of receiver.new.report) }
+        Demanded (C.means receiver.old.code) ws (places_of receiver.old.report) (flips_of receiver.old.report) →
+        Demanded (C.means receiver.old.code) (noted (C.means receiver.old.code) ws call) (places_of receiver.new.report) (flips_of receiver.new.report) }
 {
     match call {
         Call::Offer { word } => {
@@ -37,8 +36,8 @@ fn make<C: Code>(receiver: &mut Receiver<C>, call: Call)
 /// A new receiver over the code, after the calls in their order.
 pub fn replay<C: Code>(code: C, calls: &[Call]) -> Receiver<C>
     ensures holds { result.code ≡ code }
-    ensures places { Demanded (meaning C.n C.k C.t C.codeword C.serves code) (book (meaning C.n C.k C.t C.codeword C.serves code) calls.now) (places_of result.report) (flips_of result.report) }
-    ensures tally { Tally (meaning C.n C.k C.t C.codeword C.serves code) (book (meaning C.n C.k C.t C.codeword C.serves code) calls.now) (settled_in (places_of result.report)) (sum (flips_of result.report)) }
+    ensures places { Demanded (C.means code) (book (C.means code) calls.now) (places_of result.report) (flips_of result.report) }
+    ensures tally { Tally (C.means code) (book (C.means code) calls.now) (settled_in (places_of result.report)) (sum (flips_of result.report)) }
 {
     let mut receiver = Receiver::new(code);
     for call in calls {
@@ -69,7 +68,7 @@ pub fn compare<C: Code, D: Code>(
     other: D,
     others: &[Call],
 ) -> Comparison<C, D>
-    ensures law { Runs (meaning C.n C.k C.t C.codeword C.serves one) (meaning D.n D.k D.t D.codeword D.serves other) calls.now others.now (places_of result.first.report) (flips_of result.first.report) (places_of result.second.report) (flips_of result.second.report) }
+    ensures law { Runs (C.means one) (D.means other) calls.now others.now (places_of result.first.report) (flips_of result.first.report) (places_of result.second.report) (flips_of result.second.report) }
     ensures codes { (result.first.code ≡ one) × (result.second.code ≡ other) }
     ensures verdict { MatchBool result.equal (places_of result.first.report ≡ places_of result.second.report) (places_of result.first.report ≢ places_of result.second.report) }
 {

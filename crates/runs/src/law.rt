@@ -1,6 +1,5 @@
 //! Both laws at once: two runs of calls, and two tables carried.
 ghost use Rattle.std.specs.Prelude.{◌≡◌, MatchBool, ◌≢◌};
-ghost use Rattle.codes.specs.Meaning.{meaning};
 ghost use Rattle.link.specs.Report.{places_of, flips_of};
 ghost use Rattle.runs.specs.Law.{Carriages, Law};
 ghost use Rattle.runs.specs.Transport.{Carried, Arrives};
@@ -33,8 +32,8 @@ pub struct Judgement<C, D> {
 
 /// Carries a table over its code.
 fn carry_trip<C: Code + Drop>(trip: Trip<'_, C>, buffer: &mut [u8]) -> Result<usize, Fault>
-    ensures carried { Carried (meaning C.n C.k C.t C.codeword C.serves trip.entry.code) trip.entry.table.now trip.entry.patterns.now buffer.old result buffer.new }
-    ensures arrives { Arrives (meaning C.n C.k C.t C.codeword C.serves trip.entry.code) trip.entry.table.now trip.entry.patterns.now buffer.old result buffer.new }
+    ensures carried { Carried (C.means trip.entry.code) trip.entry.table.now trip.entry.patterns.now buffer.old result buffer.new }
+    ensures arrives { Arrives (C.means trip.entry.code) trip.entry.table.now trip.entry.patterns.now buffer.old result buffer.new }
 {
     let Trip {
         code,
@@ -51,9 +50,9 @@ pub fn carry_both<E: Code + Drop, F: Code + Drop>(
     second: Trip<'_, F>,
     other: &mut [u8],
 ) -> (Result<usize, Fault>, Result<usize, Fault>)
-    ensures first { Carried (meaning E.n E.k E.t E.codeword E.serves first.entry.code) first.entry.table.now first.entry.patterns.now buffer.old result.0 buffer.new }
-    ensures second { Carried (meaning F.n F.k F.t F.codeword F.serves second.entry.code) second.entry.table.now second.entry.patterns.now other.old result.1 other.new }
-    ensures law { Carriages (meaning E.n E.k E.t E.codeword E.serves first.entry.code) (meaning F.n F.k F.t F.codeword F.serves second.entry.code) first.entry.table.now first.entry.patterns.now buffer.old result.0 buffer.new second.entry.table.now second.entry.patterns.now other.old result.1 other.new }
+    ensures first { Carried (E.means first.entry.code) first.entry.table.now first.entry.patterns.now buffer.old result.0 buffer.new }
+    ensures second { Carried (F.means second.entry.code) second.entry.table.now second.entry.patterns.now other.old result.1 other.new }
+    ensures law { Carriages (E.means first.entry.code) (F.means second.entry.code) first.entry.table.now first.entry.patterns.now buffer.old result.0 buffer.new second.entry.table.now second.entry.patterns.now other.old result.1 other.new }
 {
     let one = carry_trip(first, buffer);
     let two = carry_trip(second, other);
@@ -71,10 +70,10 @@ pub fn judge<C: Code, D: Code, E: Code + Drop, F: Code + Drop>(
 ) -> Judgement<C, D>
     ensures codes { (result.runs.first.code ≡ one.entry.code) × (result.runs.second.code ≡ other.entry.code) }
     ensures verdict { MatchBool result.runs.equal (places_of result.runs.first.report ≡ places_of result.runs.second.report) (places_of result.runs.first.report ≢ places_of result.runs.second.report) }
-    ensures first { Carried (meaning E.n E.k E.t E.codeword E.serves first.entry.code) first.entry.table.now first.entry.patterns.now first_buffer.old result.first first_buffer.new }
-    ensures second { Carried (meaning F.n F.k F.t F.codeword F.serves second.entry.code) second.entry.table.now second.entry.patterns.now second_buffer.old result.second second_buffer.new }
-    ensures law { Law (meaning C.n C.k C.t C.codeword C.serves one.entry.code) (meaning D.n D.k D.t D.codeword D.serves other.entry.code) one.entry.calls.now other.entry.calls.now (places_of result.runs.first.report) (flips_of result.runs.first.report) (places_of result.runs.second.report) (flips_of result.runs.second.report)
-        (meaning E.n E.k E.t E.codeword E.serves first.entry.code) (meaning F.n F.k F.t F.codeword F.serves second.entry.code) first.entry.table.now first.entry.patterns.now first_buffer.old result.first first_buffer.new second.entry.table.now second.entry.patterns.now second_buffer.old result.second second_buffer.new }
+    ensures first { Carried (E.means first.entry.code) first.entry.table.now first.entry.patterns.now first_buffer.old result.first first_buffer.new }
+    ensures second { Carried (F.means second.entry.code) second.entry.table.now second.entry.patterns.now second_buffer.old result.second second_buffer.new }
+    ensures law { Law (C.means one.entry.code) (D.means other.entry.code) one.entry.calls.now other.entry.calls.now (places_of result.runs.first.report) (flips_of result.runs.first.report) (places_of result.runs.second.report) (flips_of result.runs.second.report)
+        (E.means first.entry.code) (F.means second.entry.code) first.entry.table.now first.entry.patterns.now first_buffer.old result.first first_buffer.new second.entry.table.now second.entry.patterns.now second_buffer.old result.second second_buffer.new }
 {
     let Run { code, calls } = one;
     let Run {

@@ -1,6 +1,5 @@
 //! Carrying a table over a noisy line, from its bytes to its bytes.
 ghost use Rattle.std.specs.Prelude.{◌≡◌, [], length, MatchResult, slice_index};
-ghost use Rattle.codes.specs.Meaning.{meaning};
 ghost use Rattle.link.specs.Report.{places_of};
 ghost use Rattle.runs.specs.Steps.{Arriving, Stopped};
 ghost use Rattle.runs.specs.Transport.{Carried, Arrives};
@@ -28,7 +27,7 @@ fn offer_all<C: Code>(
 ) -> Result<(), Fault>
     requires { places_of receiver.old.report ≡ [] }
     ensures same { receiver.new.code ≡ receiver.old.code }
-    ensures heard { MatchResult result (λ _. Arriving (meaning C.n C.k C.t C.codeword C.serves receiver.old.code) words.now patterns.now (length words.now) (places_of receiver.new.report)) (Stopped (meaning C.n C.k C.t C.codeword C.serves receiver.old.code) words.now patterns.now) }
+    ensures heard { MatchResult result (λ _. Arriving (C.means receiver.old.code) words.now patterns.now (length words.now) (places_of receiver.new.report)) (Stopped (C.means receiver.old.code) words.now patterns.now) }
 {
     for i in 0..words.len() {
         receiver.offer(words[i] ^ pattern_at(patterns, i))?;
@@ -43,8 +42,8 @@ pub fn carry<C: Code + Drop>(
     patterns: &[u64],
     buffer: &mut [u8],
 ) -> Result<usize, Fault>
-    ensures carried { Carried (meaning C.n C.k C.t C.codeword C.serves code) table.now patterns.now buffer.old result buffer.new }
-    ensures arrives { Arrives (meaning C.n C.k C.t C.codeword C.serves code) table.now patterns.now buffer.old result buffer.new }
+    ensures carried { Carried (C.means code) table.now patterns.now buffer.old result buffer.new }
+    ensures arrives { Arrives (C.means code) table.now patterns.now buffer.old result buffer.new }
 {
     let mut words = [0; ROOM];
     let count = send(&code, table, &mut words)?;

@@ -1,6 +1,6 @@
 //! Sends a table as codewords, one for each of its messages.
 ghost use Rattle.std.specs.Prelude.{◌≡◌, ◌+◌, ◌*◌, ◌/◌, ◌%◌, ◌^◌, ◌<◌, ◌≤◌, true, ◌⊎◌, length, MatchBool, OnOk, slice_index};
-ghost use Rattle.codes.specs.Meaning.{meaning, Carries};
+ghost use Rattle.codes.specs.Meaning.{Carries};
 ghost use Rattle.tables.specs.Feed.{InHand, left};
 ghost use Rattle.tables.specs.Sender.{Words, Sent, OneSending};
 ghost use Rattle.tables.specs.Stream.{Bytes, stream, messages_for};
@@ -76,9 +76,9 @@ fn draw(table: &[u8], outgoing: Outgoing, width: u32) -> Drawn
 
 /// The codeword of a message that fits, of a code in service.
 fn codeword<C: Code>(code: &C, message: u64) -> u64
-    requires serving { C.serves code.now ≡ true }
-    requires fits { message < 2 ^ C.k code.now }
-    ensures { Carries (meaning C.n C.k C.t C.codeword C.serves code.now) message result }
+    requires serving { (C.means code.now).serves ≡ true }
+    requires fits { message < 2 ^ (C.means code.now).k }
+    ensures { Carries (C.means code.now) message result }
 {
     match code.encode(message) {
         Ok(word) => word,
@@ -104,13 +104,13 @@ fn fits(size: usize, width: u32) -> bool
 
 /// Writes the codeword of each message.
 fn write_words<C: Code>(code: &C, table: &[u8], width: u32, words: &mut [u64])
-    requires serving { C.serves code.now ≡ true }
-    requires width { width ≡ C.k code.now }
+    requires serving { (C.means code.now).serves ≡ true }
+    requires width { width ≡ (C.means code.now).k }
     requires some { 0 < width }
     requires wide { width ≤ 42 }
     requires short { length table.now < 65536 }
     requires room { messages_for width (length table.now) ≤ length words.old }
-    ensures { Words (meaning C.n C.k C.t C.codeword C.serves code.now) table.now words.old words.new }
+    ensures { Words (C.means code.now) table.now words.old words.new }
 {
     let mut outgoing = Outgoing {
         next: 0,
@@ -130,7 +130,7 @@ fn one_sending()
 
 /// Sends a table: writes the codeword of each of its messages, and answers how many. A refusal leaves the list as it was.
 pub fn send<C: Code>(code: &C, table: &[u8], words: &mut [u64]) -> Result<usize, Fault>
-    ensures sent { Sent (meaning C.n C.k C.t C.codeword C.serves code.now) table.now words.old result words.new }
+    ensures sent { Sent (C.means code.now) table.now words.old result words.new }
     ensures one { OneSending }
     ensures bytes { OnOk result (Bytes table.now) }
 {

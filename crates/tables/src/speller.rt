@@ -1,6 +1,5 @@
 //! Spells out the table that a list of messages holds.
 ghost use Rattle.std.specs.Prelude.{◌≡◌, ℕ, ◌+◌, ◌-◌, ◌*◌, ◌/◌, ◌%◌, ◌^◌, ◌<◌, ◌≤◌, ◌⊎◌, List, ◌++◌, length, drop, MatchBool, MatchOption, ◌≢◌, slice_index};
-ghost use Rattle.codes.specs.Meaning.{meaning};
 ghost use Rattle.tables.specs.Feed.{InHand, joined, left, Below, Sized};
 ghost use Rattle.tables.specs.Speller.{TableOf, Spelled, OneSpelling};
 ghost use Rattle.tables.specs.Stream.{messages_for};
@@ -179,7 +178,7 @@ fn one_spelling()
 
 /// Spells out the table that has these messages: writes its bytes, and answers how many. A refusal leaves the buffer as it was.
 pub fn spell<C: Code>(code: &C, messages: &[u64], buffer: &mut [u8]) -> Result<usize, Fault>
-    ensures spelled { Spelled (meaning C.n C.k C.t C.codeword C.serves code.now) messages.now buffer.old result buffer.new }
+    ensures spelled { Spelled (C.means code.now) messages.now buffer.old result buffer.new }
     ensures one { OneSpelling }
 {
     one_spelling();

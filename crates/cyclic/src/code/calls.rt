@@ -64,15 +64,7 @@ impl Cyclic {
 }
 
 impl Code for Cyclic {
-    ghost n = { λ c. (meaning_of c).n };
-
-    ghost k = { λ c. (meaning_of c).k };
-
-    ghost t = { λ c. (meaning_of c).t };
-
-    ghost codeword = { λ c. (meaning_of c).codeword };
-
-    ghost serves = { λ c. (meaning_of c).serves };
+    ghost means = { meaning_of };
 
     ghost lawful = { λ c. Codewords.lawful (numbers c.generator) (facts c.generator) };
 

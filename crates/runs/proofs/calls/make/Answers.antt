@@ -1,5 +1,4 @@
 use Rattle.std.proofs.Common.{sym, subst}
-use Rattle.codes.specs.Meaning.{meaning}
 use Rattle.link.specs.Report.{places_of, flips_of}
 use Rattle.runs.specs.declared.calls.Call.{Call}
 use Rattle.runs.specs.Book.{noted, Demanded}
@@ -9,7 +8,7 @@ use Rattle.runs.proofs.calls.make.Goals as goal
 pub returns-in-Offer : goal.returns-in-Offer
 returns-in-Offer g c =
     let code = g.C.Code in
-    let m = meaning code.n code.k code.t code.codeword code.serves c.args.receiver.now.code in
+    let m = code.means c.args.receiver.now.code in
     let after = c.offer.new.self.report in
     record {
       same = c.offer.ensures.same;
@@ -21,7 +20,7 @@ returns-in-Offer g c =
 pub returns-in-Repeat : goal.returns-in-Repeat
 returns-in-Repeat g c =
     let code = g.C.Code in
-    let m = meaning code.n code.k code.t code.codeword code.serves c.args.receiver.now.code in
+    let m = code.means c.args.receiver.now.code in
     let law = g.met.C.Code.lawful c.args.receiver.now.code in
     let after = c.repeat.new.self.report in
     record {

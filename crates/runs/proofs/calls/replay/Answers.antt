@@ -1,5 +1,4 @@
 use Rattle.std.proofs.Common.{refl, ◌∙◌}
-use Rattle.codes.specs.Meaning.{meaning}
 use Rattle.link.specs.Report.{places_of, flips_of}
 use Rattle.runs.proofs.Following.{demanded_none, run_more, run_all, tallied}
 use Rattle.runs.proofs.calls.replay.Goals as goal
@@ -15,7 +14,7 @@ loop-call-preserved g c =
     let turn = c.loop-call in
     let after = c.make.new.receiver.report in (
       c.make.ensures.same ∙ turn.invariant.0,
-      run_more (meaning code.n code.k code.t code.codeword code.serves) turn.receiver.code c.new-receiver.result.code
+      run_more code.means turn.receiver.code c.new-receiver.result.code
           c.args.calls.now turn.call-index _ (places_of turn.receiver.report) (places_of after) (flips_of turn.receiver.report) (flips_of after)
           turn.invariant.0 c.loop-call-test.true turn.invariant.1 c.make.ensures.follows,
     )
@@ -25,7 +24,7 @@ returns g c =
     let code = g.C.Code in
     let turn = c.loop-call in
     let kept =
-    run_all (meaning code.n code.k code.t code.codeword code.serves) c.new-receiver.result.code c.args.code
+    run_all code.means c.new-receiver.result.code c.args.code
     c.args.calls.now turn.call-index (places_of turn.receiver.report) (flips_of turn.receiver.report) c.new-receiver.ensures.code
     c.loop-call-test.false turn.invariant.1 in
     record { holds = turn.invariant.0 ∙ c.new-receiver.ensures.code; places = kept; tally = tallied _ _ _ _ kept }

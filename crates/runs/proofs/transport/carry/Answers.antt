@@ -1,6 +1,5 @@
 use Rattle.std.proofs.Common.{◌∙◌}
 use Rattle.std.proofs.lemmas.Result.{err_from_is_err_and}
-use Rattle.codes.specs.Meaning.{meaning}
 use Rattle.link.specs.Report.{places_of}
 use Rattle.runs.proofs.Carrying.{stopped_over, spelled_over}
 use Rattle.runs.proofs.transport.carry.Goals as goal
@@ -11,7 +10,7 @@ returns-in_err-offer_all g c =
     let out = c.from_residual-in_err-offer_all in
     let p = err_from_is_err_and out.result out.ensures.1 in
     let both =
-    stopped_over (meaning code.n code.k code.t code.codeword code.serves) c.args.code (g.met.C.Code.lawful c.args.code)
+    stopped_over code.means c.args.code (g.met.C.Code.lawful c.args.code)
     c.args.table.now c.args.patterns.now c.args.buffer.now _ c.send.new.words c.in_ok-count.count
     c.in_ok-count.ensures.sent c.new-receiver.result.code c.new-receiver.ensures.code c.in_err-offer_all.field-0.0
     c.in_err-offer_all.ensures.heard in
@@ -21,7 +20,7 @@ pub returns : goal.returns
 returns g c =
     let code = g.C.Code in
     let both =
-    spelled_over (meaning code.n code.k code.t code.codeword code.serves) c.args.code (g.met.C.Code.lawful c.args.code)
+    spelled_over code.means c.args.code (g.met.C.Code.lawful c.args.code)
     c.args.table.now c.args.patterns.now c.args.buffer.now _ c.send.new.words c.in_ok-count.count
     c.in_ok-count.ensures.sent c.new-receiver.result.code c.seal.result.code c.new-receiver.ensures.code
     (c.seal.ensures.code ∙ c.offer_all.ensures.same ∙ c.new-receiver.ensures.code) c.in_ok-count.ensures.bytes

@@ -1,5 +1,4 @@
 use Rattle.std.proofs.Common.{◌≡◌, ℕ, ◌-◌, map, length, take, ap, ◌∙◌, arith}
-use Rattle.codes.specs.Meaning.{meaning}
 use Rattle.link.specs.declared.report.Place.TheVariants.{Settled}
 use Rattle.link.specs.Report.{places_of}
 use Rattle.link.proofs.SpellingPlaces.{spelled_places}
@@ -9,7 +8,7 @@ pub returns : goal.returns
 returns g c =
     let code = g.C.Code in
     let self = c.args.self.now in
-    let m = meaning code.n code.k code.t code.codeword code.serves self.code in
+    let m = code.means self.code in
     let found = c.in_ok-messages in
     let count : length (places_of self.report) ≡ c.count.result - 0 = omega (arith, c.count.ensures) in
     record {
