@@ -4,8 +4,8 @@ use Rattle.codes.specs.declared.fault.Fault.{Fault}
 use Rattle.codes.specs.Fault.{number}
 use Rattle.codes.specs.Meaning.{Meaning}
 use Rattle.lines.specs.declared.heading.Heading.{Heading}
-use Rattle.lines.specs.declared.heading.Name.{Name}
-use Rattle.lines.specs.declared.heading.Name.TheVariants.{G23, Q31, Q41}
+use Rattle.cyclic.specs.declared.name.Name.{Name}
+use Rattle.cyclic.specs.declared.name.Name.TheVariants.{G23, Q31, Q41}
 use Rattle.listings.specs.declared.choice.Choice.{Choice}
 use Rattle.listings.specs.Choice.{choice_means, named}
 

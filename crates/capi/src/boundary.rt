@@ -5,7 +5,8 @@ ghost use Rattle.lines.specs.declared.heading.Heading.{Heading as Named};
 ghost use Rattle.capi.specs.Boundary.{status, code_number, Numbers, NumbersNone, Picks};
 
 use codes::fault::Fault;
-use lines::heading::{Heading, Name};
+use cyclic::name::Name;
+use lines::heading::Heading;
 use listings::choice::Choice;
 
 /// What a call answers where no code has the number.
@@ -41,7 +42,7 @@ pub(crate) fn pick(code: u32) -> Option<Choice>
     ensures { MatchOption result (NumbersNone code) (Picks code) }
 {
     match heading_of(code) {
-        Some(heading) => Some(Choice::of(heading)),
+        Some(heading) => Some(Choice::from(heading)),
         None => None,
     }
 }

@@ -2,6 +2,7 @@
 use codes::fault::Fault;
 use codes::interface::Code;
 use cyclic::Cyclic;
+use cyclic::name::Name;
 use layers::parity::Parity;
 use layers::shortened::Shortened;
 
@@ -37,7 +38,7 @@ fn hear<C: Code>(rt: &impl Print, car: &str, code: &C, word: u64) -> anyhow::Res
 
 /// The same word over one code, heard by two cars.
 pub fn two_cars(rt: &impl Print) -> anyhow::Result<()> {
-    let code = Cyclic::q41();
+    let code = Cyclic::of(Name::Q41);
     match code.encode(MESSAGE) {
         Ok(codeword) => {
             println!(rt; "Q41: message {MESSAGE:x} goes out as {codeword:x}")?;
@@ -50,7 +51,7 @@ pub fn two_cars(rt: &impl Print) -> anyhow::Result<()> {
 
 /// A pile of layers: Q41 without its five highest message bits, and with a parity bit.
 pub fn pile(rt: &impl Print) -> anyhow::Result<()> {
-    let code = Parity::over(Shortened::over(Cyclic::q41(), 5));
+    let code = Parity::over(Shortened::over(Cyclic::of(Name::Q41), 5));
     match code.encode(0x1234) {
         Ok(codeword) => {
             println!(rt; "Q41 shortened by 5, with parity: message 1234 goes out as {codeword:x}")?;

@@ -2,6 +2,7 @@
 use crate::single::{FIVE, FOUR, refused};
 use codes::fault::Fault;
 use cyclic::Cyclic;
+use cyclic::name::Name;
 use link::receiver::{Answer, Receiver};
 use link::report::Place;
 use link::sealed::Sealed;
@@ -24,13 +25,13 @@ const SPOILED: usize = 17;
 /// The words of the table.
 pub fn sent() -> Result<[u64; WORDS], Fault> {
     let mut words = [0; WORDS];
-    let _ = send(&Cyclic::q41(), &TABLE, &mut words)?;
+    let _ = send(&Cyclic::of(Name::Q41), &TABLE, &mut words)?;
     Ok(words)
 }
 
 /// A receiver that was offered the words, with these bits turned over in the spoiled one.
 fn heard(words: &[u64; WORDS], pattern: u64) -> Result<Receiver<Cyclic>, Fault> {
-    let mut receiver = Receiver::new(Cyclic::q41());
+    let mut receiver = Receiver::new(Cyclic::of(Name::Q41));
     for i in 0..WORDS {
         let flips = if i == SPOILED { pattern } else { 0 };
         let _ = receiver.offer(words[i] ^ flips)?;
@@ -81,7 +82,7 @@ pub fn hotel(rt: &impl Print) -> anyhow::Result<()> {
 
 /// A receiver whose software drops the spoiled word.
 pub fn heard_without(words: &[u64; WORDS]) -> Result<Receiver<Cyclic>, Fault> {
-    let mut receiver = Receiver::new(Cyclic::q41());
+    let mut receiver = Receiver::new(Cyclic::of(Name::Q41));
     for i in 0..WORDS {
         if i != SPOILED {
             let _ = receiver.offer(words[i])?;
@@ -166,7 +167,7 @@ pub fn office(rt: &impl Print) -> anyhow::Result<()> {
 
 /// What came of two runs that end in the same report, and of the table carried twice.
 fn both_cases(word: u64) -> Judgement<Cyclic, Cyclic> {
-    let code = Cyclic::q41();
+    let code = Cyclic::of(Name::Q41);
     let calls = [Call::Offer { word: word ^ FOUR }];
     let others = [
         Call::Offer { word: word ^ FIVE },

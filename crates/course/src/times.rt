@@ -3,6 +3,7 @@ use crate::single::refused;
 use crate::table::{WORDS, heard_without, repaired_report, sent};
 use codes::fault::Fault;
 use cyclic::Cyclic;
+use cyclic::name::Name;
 use link::report::Place;
 use records::lookup::{door_time, travel_time};
 use tables::speller::spell;
@@ -36,7 +37,7 @@ fn shifted_messages(words: &[u64; WORDS]) -> Result<[u64; WORDS], Fault> {
 fn shifted_table(words: &[u64; WORDS]) -> Result<Buffer, Fault> {
     let messages = shifted_messages(words)?;
     let mut buffer = [0; 64];
-    let _ = spell(&Cyclic::q41(), &messages, &mut buffer)?;
+    let _ = spell(&Cyclic::of(Name::Q41), &messages, &mut buffer)?;
     Ok(buffer)
 }
 

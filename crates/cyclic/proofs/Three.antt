@@ -4,6 +4,9 @@ use Rattle.cyclic.specs.Polynomial.{horner_in, horner, scale, times_x, remainder
 use Rattle.cyclic.specs.Sound.{weight, spans, sound_at, sound}
 use Rattle.cyclic.specs.Generator.{Numbers, code_of, parity_bits, syndrome, g23, q31, q41}
 use Rattle.cyclic.specs.Code.{LeastDistance, Perfect}
+use Rattle.cyclic.specs.Name.{numbers_named, distance_named}
+use Rattle.cyclic.specs.declared.name.Name.{Name}
+use Rattle.cyclic.specs.declared.name.Name.TheVariants.{G23, Q31, Q41}
 use Rattle.cyclic.specs.Codewords.{lawful, codeword_by_syndrome}
 use Rattle.cyclic.specs.Facts.{Holds, holds}
 use Rattle.cyclic.specs.Linear.{remainder_zero}
@@ -51,3 +54,13 @@ q41_distance = least q41 q41_holds 0x40eb81 (lit< tt) refl refl (lit< tt)
 pub g23_perfect : Perfect (code_of g23)
 unfolding marks scale times_x
 g23_perfect = perfect (lawful g23 g23_holds) (all_reached g23 g23_holds refl)
+
+pub named_holds : (name : Name) → Holds (numbers_named name)
+named_holds G23 = g23_holds
+named_holds Q31 = q31_holds
+named_holds Q41 = q41_holds
+
+pub named_distance : (name : Name) → LeastDistance (code_of (numbers_named name)) (distance_named name)
+named_distance G23 = g23_distance
+named_distance Q31 = q31_distance
+named_distance Q41 = q41_distance

@@ -2,6 +2,7 @@ pub mod Polynomial
 pub mod Sound
 pub mod Generator
 pub mod Search
+pub mod Name
 pub mod Code
 pub mod Codewords
 pub mod Linear

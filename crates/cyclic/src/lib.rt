@@ -3,5 +3,6 @@
 
 pub mod code;
 pub mod generator;
+pub mod name;
 
 pub use code::Cyclic;

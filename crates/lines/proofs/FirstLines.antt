@@ -6,8 +6,8 @@ use Rattle.codes.specs.declared.fault.Cause.TheVariants.{BadLine}
 use Rattle.codes.specs.declared.fault.Fault.{Fault}
 use Rattle.codes.proofs.Faults.{Decided, one_outcome}
 use Rattle.lines.specs.declared.heading.Heading.{Heading}
-use Rattle.lines.specs.declared.heading.Name.{Name}
-use Rattle.lines.specs.declared.heading.Name.TheVariants.{G23, Q31, Q41}
+use Rattle.cyclic.specs.declared.name.Name.{Name}
+use Rattle.cyclic.specs.declared.name.Name.TheVariants.{G23, Q31, Q41}
 use Rattle.lines.specs.Command.{BadLineFault}
 use Rattle.lines.specs.Heading.{name_text, mark_text, heading_text, NamesNone, is_heading, HeadingReadAs, Headings}
 

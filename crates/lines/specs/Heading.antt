@@ -5,8 +5,8 @@ use Rattle.codes.specs.declared.fault.Layer.TheVariants.{Table}
 use Rattle.codes.specs.Fault.{Test, test, Outcome}
 use Rattle.codes.specs.Meaning.{One}
 use Rattle.lines.specs.declared.heading.Heading.{Heading}
-use Rattle.lines.specs.declared.heading.Name.{Name}
-use Rattle.lines.specs.declared.heading.Name.TheVariants.{G23, Q31, Q41}
+use Rattle.cyclic.specs.declared.name.Name.{Name}
+use Rattle.cyclic.specs.declared.name.Name.TheVariants.{G23, Q31, Q41}
 use Rattle.lines.specs.declared.token.Token.{Token}
 use Rattle.lines.specs.declared.token.Token.TheVariants.{Name as NameToken, Place, Word}
 use Rattle.lines.specs.Command.{BadLineFault}

@@ -1,18 +1,11 @@
 //! The first line of a listing, which names a code.
 ghost use Rattle.std.specs.Prelude.{◌≡◌, Bool, MatchOption, ◌≢◌};
-ghost use Rattle.lines.specs.declared.heading.Name.{Name as CodeName};
+ghost use Rattle.cyclic.specs.declared.name.Name.{Name as CodeName};
 ghost use Rattle.lines.specs.Heading.{name_text, mark_text, TokenNames, FindsHeading, HeadingReadAs, Headings};
 
 use crate::token::Token;
 use codes::fault::{Cause, Fault};
-
-/// The name of a code.
-#[derive(Clone, Copy, PartialEq, Eq, Debug)]
-pub enum Name {
-    G23,
-    Q31,
-    Q41,
-}
+use cyclic::name::Name;
 
 /// A code by its name, and whether a parity layer is added to it.
 #[derive(Clone, Copy, PartialEq, Eq, Debug)]
@@ -78,8 +71,5 @@ pub fn read_heading(line: &[u8]) -> Result<Heading, Fault>
     ensures law { Headings }
 {
     headings();
-    match find_heading(line) {
-        Some(heading) => Ok(heading),
-        None => Err(Fault::new(Cause::BadLine)),
-    }
+    find_heading(line).ok_or(Fault::new(Cause::BadLine))
 }

@@ -3,8 +3,8 @@ use Rattle.std.proofs.Common.{◌≡◌, ℕ, ◌+◌, ◌<◌, ◌≤◌, Bool,
 use Rattle.std.proofs.lemmas.List.{take_all, take-append-le, take-take, take_more_set}
 use Rattle.std.proofs.lemmas.Bool.{cases_lt}
 use Rattle.lines.specs.declared.heading.Heading.{Heading}
-use Rattle.lines.specs.declared.heading.Name.{Name}
-use Rattle.lines.specs.declared.heading.Name.TheVariants.{G23, Q31, Q41}
+use Rattle.cyclic.specs.declared.name.Name.{Name}
+use Rattle.cyclic.specs.declared.name.Name.TheVariants.{G23, Q31, Q41}
 use Rattle.lines.specs.Command.{Stands}
 use Rattle.lines.specs.Heading.{heading_text, name_text, mark_text}
 use Rattle.lines.proofs.Commands.{command_length}

@@ -1,21 +1,16 @@
 -- What the code that a heading names means.
 use Rattle.std.specs.Prelude.{cond}
 use Rattle.codes.specs.Meaning.{Meaning}
-use Rattle.cyclic.specs.Generator.{Numbers, code_of, g23, q31, q41}
+use Rattle.cyclic.specs.Generator.{code_of}
 use Rattle.cyclic.specs.Code.{meaning_of}
 use Rattle.layers.specs.Parity.{with_parity, parity_over}
 use Rattle.lines.specs.declared.heading.Heading.{Heading}
-use Rattle.lines.specs.declared.heading.Name.{Name}
-use Rattle.lines.specs.declared.heading.Name.TheVariants.{G23, Q31, Q41}
+use Rattle.cyclic.specs.declared.name.Name.{Name}
+use Rattle.cyclic.specs.Name.{numbers_named}
 use Rattle.listings.specs.declared.choice.Choice.{Choice}
 use Rattle.listings.specs.declared.choice.Choice.TheVariants.{Plain, WithParity}
 
--- the numbers of a code, by its name
-abbrev pub numbers_named : Name → Numbers
-numbers_named G23 = g23
-numbers_named Q31 = q31
-numbers_named Q41 = q41
-
+-- the code of a name, without a layer
 abbrev pub plain_named : Name → Meaning
 plain_named name = code_of (numbers_named name)
 

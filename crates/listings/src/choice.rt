@@ -1,13 +1,13 @@
 //! The code that a heading names, picked at run time.
 ghost use Rattle.std.specs.Prelude.{◌≡◌};
-ghost use Rattle.listings.specs.Choice.{choice_means, plain_named, named};
+ghost use Rattle.listings.specs.Choice.{choice_means, named};
 ghost use Rattle.listings.specs.Lawfulness.{choice_lawful};
 
 use codes::fault::Fault;
 use codes::interface::{Code, Correction, Shape};
 use cyclic::Cyclic;
 use layers::parity::Parity;
-use lines::heading::{Heading, Name};
+use lines::heading::Heading;
 
 /// One of the three codes, with or without a parity bit.
 #[derive(Clone, Copy)]
@@ -16,23 +16,12 @@ pub enum Choice {
     WithParity(Parity<Cyclic>),
 }
 
-/// The code of a name.
-fn code_named(name: Name) -> Cyclic
-    ensures { choice_means (Choice.Plain result) ≡ plain_named name }
-{
-    match name {
-        Name::G23 => Cyclic::g23(),
-        Name::Q31 => Cyclic::q31(),
-        Name::Q41 => Cyclic::q41(),
-    }
-}
+/// The code that a heading names.
+impl From<Heading> for Choice {
+    ghost from_gives = { λ heading choice. choice_means choice ≡ named heading };
 
-impl Choice {
-    /// The code that a heading names.
-    pub fn of(heading: Heading) -> Choice
-        ensures { choice_means result ≡ named heading }
-    {
-        let code = code_named(heading.name);
+    fn from(heading: Heading) -> Choice {
+        let code = Cyclic::of(heading.name);
         if heading.parity {
             Choice::WithParity(Parity::over(code))
         } else {

@@ -58,7 +58,7 @@ impl Listing {
         ensures flips { flips_in result ≡ [] }
     {
         Listing {
-            receiver: Receiver::new(Choice::of(heading)),
+            receiver: Receiver::new(Choice::from(heading)),
         }
     }
 

@@ -15,16 +15,17 @@ use crate::flips::{beyond_reach, within_reach};
 use crate::plain::{G23, Q31, Q41};
 use crate::size::Size;
 use cyclic::Cyclic;
+use cyclic::name::Name;
 use std::process::ExitCode;
 
 /// The three codes by themselves. Answers how many words were compared.
 fn bare(rt: &HostRuntime, size: &Size) -> anyhow::Result<u64> {
-    let a = within_reach(rt, &Cyclic::g23(), &G23, size.codewords)?;
-    let b = within_reach(rt, &Cyclic::q31(), &Q31, size.codewords)?;
-    let c = within_reach(rt, &Cyclic::q41(), &Q41, size.codewords)?;
-    let d = classes(rt, &Cyclic::g23(), &G23, size.few)?;
-    let e = classes(rt, &Cyclic::q31(), &Q31, size.few)?;
-    let f = classes(rt, &Cyclic::q41(), &Q41, size.few)?;
+    let a = within_reach(rt, &Cyclic::of(Name::G23), &G23, size.codewords)?;
+    let b = within_reach(rt, &Cyclic::of(Name::Q31), &Q31, size.codewords)?;
+    let c = within_reach(rt, &Cyclic::of(Name::Q41), &Q41, size.codewords)?;
+    let d = classes(rt, &Cyclic::of(Name::G23), &G23, size.few)?;
+    let e = classes(rt, &Cyclic::of(Name::Q31), &Q31, size.few)?;
+    let f = classes(rt, &Cyclic::of(Name::Q41), &Q41, size.few)?;
     let near = a.wrapping_add(b).wrapping_add(c);
     Ok(near.wrapping_add(d).wrapping_add(e).wrapping_add(f))
 }
@@ -39,8 +40,8 @@ fn over_layers(rt: &HostRuntime, size: &Size) -> anyhow::Result<u64> {
 
 /// One flip too many, and three refusals. Answers how many words were compared.
 fn refused(rt: &HostRuntime, size: &Size) -> anyhow::Result<u64> {
-    let a = beyond_reach(rt, &Cyclic::q31(), &Q31, size.few)?;
-    let b = beyond_reach(rt, &Cyclic::q41(), &Q41, size.few)?;
+    let a = beyond_reach(rt, &Cyclic::of(Name::Q31), &Q31, size.few)?;
+    let b = beyond_reach(rt, &Cyclic::of(Name::Q41), &Q41, size.few)?;
     let c = refusals::long_message(rt)?;
     let d = refusals::second_parity(rt)?;
     let e = refusals::no_places(rt)?;

@@ -3,6 +3,7 @@ use anyhow::anyhow;
 use codes::fault::Fault;
 use codes::interface::Code;
 use cyclic::Cyclic;
+use cyclic::name::Name;
 use layers::parity::Parity;
 use link::receiver::Receiver;
 
@@ -25,19 +26,19 @@ fn held_to(rt: &HostRuntime, what: &str, number: u8, expected: u8) -> anyhow::Re
 
 /// A message that is too long.
 pub fn long_message(rt: &HostRuntime) -> anyhow::Result<u64> {
-    let number = number(Cyclic::g23().encode(0x1000));
+    let number = number(Cyclic::of(Name::G23).encode(0x1000));
     held_to(rt, "G23, message 1000", number, 3)
 }
 
 /// A second parity layer over the longest code.
 pub fn second_parity(rt: &HostRuntime) -> anyhow::Result<u64> {
-    let code = Parity::over(Parity::over(Cyclic::q41()));
+    let code = Parity::over(Parity::over(Cyclic::of(Name::Q41)));
     held_to(rt, "Q41 with parity twice, shape", number(code.shape()), 1)
 }
 
 /// A report of no places.
 pub fn no_places(rt: &HostRuntime) -> anyhow::Result<u64> {
     let mut buffer = [0; 8];
-    let spelled = Receiver::new(Cyclic::q41()).seal().spell(&mut buffer);
+    let spelled = Receiver::new(Cyclic::of(Name::Q41)).seal().spell(&mut buffer);
     held_to(rt, "Q41, a report of no places", number(spelled), 11)
 }

@@ -1,6 +1,7 @@
 //! Sending, receiving, spelling, comparing, reading records and listings, at their edges.
 use codes::fault::{Cause, Fault, Layer};
 use cyclic::Cyclic;
+use cyclic::name::Name;
 use layers::parity::Parity;
 use layers::shortened::Shortened;
 use std::fmt::Debug;

@@ -1,10 +1,19 @@
-//! The three codes.
+//! The three codes, made.
 ghost use Rattle.std.specs.Prelude.{◌≡◌};
-ghost use Rattle.cyclic.specs.Generator.{code_of, g23, q31, q41, Multiples};
+ghost use Rattle.cyclic.specs.Generator.{code_of, g23, Multiples};
+ghost use Rattle.cyclic.specs.Name.{numbers_named, distance_named};
 ghost use Rattle.cyclic.specs.Code.{meaning_of, LeastDistance, Perfect};
 
 use super::Cyclic;
 use crate::generator::Generator;
+use crate::name::Name;
+
+/// Each of the three is what its name says; G23 leaves no word beyond reach. It does nothing but say so.
+fn three_codes(name: Name)
+    ensures multiples { Multiples (numbers_named name) }
+    ensures distance { LeastDistance (code_of (numbers_named name)) (distance_named name) }
+    ensures perfect { Perfect (code_of g23) }
+{}
 
 impl Cyclic {
     /// A generator's code, with its rows.
@@ -15,31 +24,14 @@ impl Cyclic {
         Cyclic { generator, rows }
     }
 
-    /// 23 bits, 12 of them the message, reach 3, generator ae3.
-    pub fn g23() -> Cyclic
-        ensures code { meaning_of result ≡ code_of g23 }
-        ensures multiples { Multiples g23 }
-        ensures distance { LeastDistance (code_of g23) 7 }
+    /// The code of a name.
+    pub fn of(name: Name) -> Cyclic
+        ensures code { meaning_of result ≡ code_of (numbers_named name) }
+        ensures multiples { Multiples (numbers_named name) }
+        ensures distance { LeastDistance (code_of (numbers_named name)) (distance_named name) }
         ensures perfect { Perfect (code_of g23) }
     {
-        Cyclic::new(Generator::g23())
-    }
-
-    /// 31 bits, 16 of them the message, reach 3, generator e309.
-    pub fn q31() -> Cyclic
-        ensures code { meaning_of result ≡ code_of q31 }
-        ensures multiples { Multiples q31 }
-        ensures distance { LeastDistance (code_of q31) 7 }
-    {
-        Cyclic::new(Generator::q31())
-    }
-
-    /// 41 bits, 21 of them the message, reach 4, generator 1b4e5b.
-    pub fn q41() -> Cyclic
-        ensures code { meaning_of result ≡ code_of q41 }
-        ensures multiples { Multiples q41 }
-        ensures distance { LeastDistance (code_of q41) 9 }
-    {
-        Cyclic::new(Generator::q41())
+        three_codes(name);
+        Cyclic::new(name.generator())
     }
 }

@@ -1,45 +1,12 @@
 //! Division by a generator, by the shifting rule.
 ghost use Rattle.std.specs.Prelude.{◌≡◌, ◌^◌, ◌<◌, length};
 ghost use Rattle.cyclic.specs.Polynomial.{times_x};
-ghost use Rattle.cyclic.specs.Generator.{numbers, parity_bits, syndrome, g23, q31, q41};
+ghost use Rattle.cyclic.specs.Generator.{numbers, parity_bits, syndrome};
 ghost use Rattle.cyclic.specs.Search.{Table};
 
 use super::Generator;
 
 impl Generator {
-    pub(crate) fn g23() -> Generator
-        ensures { numbers result ≡ g23 }
-    {
-        Generator {
-            n: 23,
-            k: 12,
-            t: 3,
-            polynomial: 0xae3,
-        }
-    }
-
-    pub(crate) fn q31() -> Generator
-        ensures { numbers result ≡ q31 }
-    {
-        Generator {
-            n: 31,
-            k: 16,
-            t: 3,
-            polynomial: 0xe309,
-        }
-    }
-
-    pub(crate) fn q41() -> Generator
-        ensures { numbers result ≡ q41 }
-    {
-        Generator {
-            n: 41,
-            k: 21,
-            t: 4,
-            polynomial: 0x1b4e5b,
-        }
-    }
-
     /// x times a remainder, reduced by the generator.
     fn times_x(&self, remainder: u64) -> u64
         requires { remainder < 2 ^ parity_bits (numbers self.now) }

@@ -13,7 +13,7 @@ fn settled(place: usize, message: u64, pattern: u64) -> Answer {
 
 #[test]
 fn offers_and_repeats(rt: HostRuntime) {
-    let mut receiver = Receiver::new(Cyclic::q31());
+    let mut receiver = Receiver::new(Cyclic::of(Name::Q31));
     assert_eq!(rt; receiver.count(), 0);
     assert_eq!(rt; receiver.place(0), None);
     assert_eq!(rt; receiver.offer(0x40006308), Ok(settled(0, 1, 0x40008001)));
@@ -31,7 +31,7 @@ fn offers_and_repeats(rt: HostRuntime) {
 
 #[test]
 fn full_report(rt: HostRuntime) {
-    let mut receiver = Receiver::new(Cyclic::g23());
+    let mut receiver = Receiver::new(Cyclic::of(Name::G23));
     for _ in 0..255 {
         let _ = receiver.offer(0xae3);
     }
@@ -47,7 +47,7 @@ fn full_report(rt: HostRuntime) {
 
 #[test]
 fn out_of_service(rt: HostRuntime) {
-    let mut receiver = Receiver::new(Parity::over(Parity::over(Cyclic::q41())));
+    let mut receiver = Receiver::new(Parity::over(Parity::over(Cyclic::of(Name::Q41))));
     assert_eq!(rt; receiver.offer(u64::MAX), Err(at(Cause::OutOfService, 0)));
     assert_eq!(rt; receiver.repeat(3, 0), Err(at(Cause::OutOfService, 3)));
     receiver.clear();

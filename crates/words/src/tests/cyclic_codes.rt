@@ -1,6 +1,7 @@
 //! The three codes.
 use super::*;
 use cyclic::Cyclic;
+use cyclic::name::Name;
 
 /// The largest message and the largest word are taken, and what comes after them is refused.
 fn edges(code: &Cyclic, last_message: u64, last_word: u64) -> Result<(), Fail> {
@@ -15,7 +16,7 @@ fn edges(code: &Cyclic, last_message: u64, last_word: u64) -> Result<(), Fail> {
 
 #[test]
 fn g23_words() -> Result<(), Fail> {
-    let code = Cyclic::g23();
+    let code = Cyclic::of(Name::G23);
     shapes(&code, 23, 12, 3)?;
     encodes(&code, 1, 0xae3)?;
     corrects(&code, 0xf, 0x402, 0x201200)?;
@@ -25,7 +26,7 @@ fn g23_words() -> Result<(), Fail> {
 
 #[test]
 fn q31_words() -> Result<(), Fail> {
-    let code = Cyclic::q31();
+    let code = Cyclic::of(Name::Q31);
     shapes(&code, 31, 16, 3)?;
     refuses(&code, 0xf, Cause::BeyondReach)?;
     corrects(&code, 0x40006308, 1, 0x40008001)?;
@@ -35,7 +36,7 @@ fn q31_words() -> Result<(), Fail> {
 
 #[test]
 fn q41_words() -> Result<(), Fail> {
-    let code = Cyclic::q41();
+    let code = Cyclic::of(Name::Q41);
     shapes(&code, 41, 21, 4)?;
     corrects(&code, 0x1b4e54, 1, 0xf)?;
     corrects(&code, 0x700001, 0, 0x700001)?;
@@ -46,7 +47,7 @@ fn q41_words() -> Result<(), Fail> {
 /// Four flips about the lowest message bit; five that are beyond reach; and five that look like four.
 #[test]
 fn q41_flips() -> Result<(), Fail> {
-    let code = Cyclic::q41();
+    let code = Cyclic::of(Name::Q41);
     let four = 1 << 40 | 1 << 21 | 1 << 20 | 1 << 19;
     corrects(&code, four, 0, four)?;
     refuses(
@@ -60,7 +61,7 @@ fn q41_flips() -> Result<(), Fail> {
 
 #[test]
 fn codewords_by_remainder(rt: HostRuntime) {
-    let code = Cyclic::g23();
+    let code = Cyclic::of(Name::G23);
     assert!(rt; code.is_codeword(0xae3));
     assert!(rt; !code.is_codeword(0xae2));
     assert!(rt; !code.is_codeword(0xae3 << 12));
