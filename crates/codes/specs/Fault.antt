@@ -1,5 +1,5 @@
 -- The causes of refusals with their numbers, the layers with their letters, and the order in which a call tests its input.
-use Rattle.std.specs.Prelude.{◌≡◌, ℕ, ◌⊎◌, List, [], ◌∷◌, Ok, Err, Result}
+use Rattle.std.specs.Prelude.{◌≡◌, ℕ, ◌⊎◌, List, [], ◌∷◌, ◌++◌, Ok, Err, Result, codes, decimal}
 use Rattle.codes.specs.declared.fault.Cause.{Cause}
 use Rattle.codes.specs.declared.fault.Cause.TheVariants.{OutOfService, WordTooLong, MessageTooLong, BeyondReach, ReportFull, NotAGap, NoMessageBits, TableTooLong, TooShort, GapInReport, NotATable, BadRecord, BadLine}
 use Rattle.codes.specs.declared.fault.Layer.{Layer}
@@ -46,6 +46,10 @@ layer_of BadLine = Table
 
 abbrev pub fault : Cause → Layer → ℕ → Fault
 fault c l p = record { cause = c; layer = l; place = p }
+
+-- how a fault is written: its number, the letter of its layer, and its place
+abbrev pub fault_text : Fault → List ℕ
+fault_text f = codes "refused with " ++ decimal (number f.cause) ++ codes ", layer " ++ letter f.layer ∷ codes ", place " ++ decimal f.place
 
 -- One test of a call: the number, layer and place of the fault, what it is to pass, and what it is to fail.
 pub record Test : Type 1 where

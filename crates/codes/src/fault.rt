@@ -1,58 +1,46 @@
 //! Why a call was refused, by which layer, and at which place.
-ghost use Rattle.std.specs.Prelude.{◌≡◌};
-ghost use Rattle.codes.specs.Fault.{fault, number, letter, layer_of};
+ghost use Rattle.std.specs.Prelude.{◌≡◌, Some};
+ghost use Rattle.codes.specs.Fault.{fault, number, letter, layer_of, fault_text};
 
-/// Why a call was refused.
+use std::fmt;
+
+/// Why a call was refused. Its number is the one by which it is known outside the program.
 #[derive(Clone, Copy, PartialEq, Eq, Debug)]
 pub enum Cause {
     /// The code is out of service.
-    OutOfService,
+    OutOfService = 1,
     /// The word is not below 2^n.
-    WordTooLong,
+    WordTooLong = 2,
     /// The message is not below 2^k.
-    MessageTooLong,
+    MessageTooLong = 3,
     /// No codeword lies within t flips of the word.
-    BeyondReach,
+    BeyondReach = 4,
     /// The report has no place left.
-    ReportFull,
+    ReportFull = 5,
     /// The named place is not a gap, or not there.
-    NotAGap,
+    NotAGap = 6,
     /// k is 0, so that a message holds no bit.
-    NoMessageBits,
+    NoMessageBits = 7,
     /// The table needs more than 256 words.
-    TableTooLong,
+    TableTooLong = 8,
     /// The list or the buffer is too short.
-    TooShort,
+    TooShort = 9,
     /// A gap is in the report.
-    GapInReport,
+    GapInReport = 10,
     /// The places are not the messages of any table.
-    NotATable,
+    NotATable = 11,
     /// The record is cut short, or has half an entry.
-    BadRecord,
+    BadRecord = 12,
     /// The line is in none of the forms.
-    BadLine,
+    BadLine = 13,
 }
 
 impl Cause {
-    /// The number by which the cause is known outside the program.
+    /// The number of the cause.
     pub fn number(self) -> u8
         ensures { result ≡ number self }
     {
-        match self {
-            Cause::OutOfService => 1,
-            Cause::WordTooLong => 2,
-            Cause::MessageTooLong => 3,
-            Cause::BeyondReach => 4,
-            Cause::ReportFull => 5,
-            Cause::NotAGap => 6,
-            Cause::NoMessageBits => 7,
-            Cause::TableTooLong => 8,
-            Cause::TooShort => 9,
-            Cause::GapInReport => 10,
-            Cause::NotATable => 11,
-            Cause::BadRecord => 12,
-            Cause::BadLine => 13,
-        }
+        self as u8
     }
 
     /// The layer that the cause belongs to.
@@ -60,19 +48,16 @@ impl Cause {
         ensures { result ≡ layer_of self }
     {
         match self {
-            Cause::OutOfService => Layer::Word,
-            Cause::WordTooLong => Layer::Word,
-            Cause::MessageTooLong => Layer::Word,
-            Cause::BeyondReach => Layer::Word,
-            Cause::ReportFull => Layer::Report,
-            Cause::NotAGap => Layer::Report,
-            Cause::NoMessageBits => Layer::Report,
-            Cause::TableTooLong => Layer::Report,
-            Cause::TooShort => Layer::Report,
-            Cause::GapInReport => Layer::Report,
-            Cause::NotATable => Layer::Report,
-            Cause::BadRecord => Layer::Table,
-            Cause::BadLine => Layer::Table,
+            Cause::OutOfService | Cause::WordTooLong | Cause::MessageTooLong | Cause::BeyondReach =>
+                Layer::Word,
+            Cause::ReportFull
+            | Cause::NotAGap
+            | Cause::NoMessageBits
+            | Cause::TableTooLong
+            | Cause::TooShort
+            | Cause::GapInReport
+            | Cause::NotATable => Layer::Report,
+            Cause::BadRecord | Cause::BadLine => Layer::Table,
         }
     }
 }
@@ -119,5 +104,16 @@ impl Fault {
             layer: cause.layer(),
             place: 0,
         }
+    }
+}
+
+impl fmt::Display for Fault {
+    ghost output = { λ f. Some (fault_text f) };
+
+    fn fmt<W: fmt::Write>(&self, f: &mut fmt::Formatter<W>) -> fmt::Result {
+        let number = self.cause.number();
+        let layer = self.layer.letter();
+        let place = self.place;
+        write!(f, "refused with {number}, layer {layer}, place {place}")
     }
 }

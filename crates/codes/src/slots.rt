@@ -31,10 +31,7 @@ impl Slot {
     pub fn number(&self) -> u8
         ensures { result ≡ verdict_number self.now.verdict }
     {
-        match self.verdict {
-            None => 0,
-            Some(cause) => cause.number(),
-        }
+        self.verdict.map_or(0, Cause::number)
     }
 }
 
