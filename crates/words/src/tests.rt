@@ -9,6 +9,7 @@ mod layered_codes;
 mod lists;
 
 /// Fails where two values differ. A helper says so by its result: an assert would ask for leave to end the process.
+// Each of the two crates of tests has its own: a crate for one helper would be no plainer.
 fn check_eq<T: Debug + PartialEq + Drop>(found: T, wanted: T) -> Result<(), Fail> {
     if found == wanted {
         return Ok(());

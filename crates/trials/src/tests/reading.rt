@@ -7,23 +7,8 @@ use records::reader::Reader;
 /// A record of kind 9, travel times of two floors (4.1 s and 6.3 s), and the door time of one (5.5 s).
 const TABLE: [u8; 19] = [1, 0, 9, 0, 7, 4, 0, 1, 0, 41, 0, 63, 0, 2, 0, 2, 0, 55, 0];
 
-/// What a lookup answers: a time, that it is absent, or a refusal at a place.
-#[derive(Clone, Copy)]
-enum Time {
-    Is(u16),
-    Absent,
-    Broken(usize),
-}
-
-impl Time {
-    fn answer(self) -> Result<Option<u16>, Fault> {
-        match self {
-            Time::Is(time) => Ok(Some(time)),
-            Time::Absent => Ok(None),
-            Time::Broken(place) => Err(at(Cause::BadRecord, place)),
-        }
-    }
-}
+/// What a lookup answers: a time, that it is absent, or the place of the record that it refuses.
+type Time = Result<Option<u16>, usize>;
 
 /// The first `size` bytes of the table, with one byte replaced: how many records are read, where the reader is refused,
 /// the travel time to floor 1, and the door time of floor 0.
@@ -46,8 +31,8 @@ const ROWS: [Row; 44] = [
         byte: 1,
         records: 0,
         fault: None,
-        travel: Time::Absent,
-        door: Time::Absent,
+        travel: Ok(None),
+        door: Ok(None),
     },
     Row {
         size: 1,
@@ -55,8 +40,8 @@ const ROWS: [Row; 44] = [
         byte: 1,
         records: 0,
         fault: Some(0),
-        travel: Time::Broken(0),
-        door: Time::Broken(0),
+        travel: Err(0),
+        door: Err(0),
     },
     Row {
         size: 2,
@@ -64,8 +49,8 @@ const ROWS: [Row; 44] = [
         byte: 1,
         records: 0,
         fault: Some(0),
-        travel: Time::Broken(0),
-        door: Time::Broken(0),
+        travel: Err(0),
+        door: Err(0),
     },
     Row {
         size: 3,
@@ -73,8 +58,8 @@ const ROWS: [Row; 44] = [
         byte: 1,
         records: 0,
         fault: Some(0),
-        travel: Time::Broken(0),
-        door: Time::Broken(0),
+        travel: Err(0),
+        door: Err(0),
     },
     Row {
         size: 4,
@@ -82,8 +67,8 @@ const ROWS: [Row; 44] = [
         byte: 1,
         records: 0,
         fault: Some(0),
-        travel: Time::Broken(0),
-        door: Time::Broken(0),
+        travel: Err(0),
+        door: Err(0),
     },
     Row {
         size: 5,
@@ -91,8 +76,8 @@ const ROWS: [Row; 44] = [
         byte: 1,
         records: 1,
         fault: None,
-        travel: Time::Absent,
-        door: Time::Absent,
+        travel: Ok(None),
+        door: Ok(None),
     },
     Row {
         size: 6,
@@ -100,8 +85,8 @@ const ROWS: [Row; 44] = [
         byte: 1,
         records: 1,
         fault: Some(5),
-        travel: Time::Broken(5),
-        door: Time::Broken(5),
+        travel: Err(5),
+        door: Err(5),
     },
     Row {
         size: 7,
@@ -109,8 +94,8 @@ const ROWS: [Row; 44] = [
         byte: 1,
         records: 1,
         fault: Some(5),
-        travel: Time::Broken(5),
-        door: Time::Broken(5),
+        travel: Err(5),
+        door: Err(5),
     },
     Row {
         size: 8,
@@ -118,8 +103,8 @@ const ROWS: [Row; 44] = [
         byte: 1,
         records: 1,
         fault: Some(5),
-        travel: Time::Broken(5),
-        door: Time::Broken(5),
+        travel: Err(5),
+        door: Err(5),
     },
     Row {
         size: 9,
@@ -127,8 +112,8 @@ const ROWS: [Row; 44] = [
         byte: 1,
         records: 1,
         fault: Some(5),
-        travel: Time::Broken(5),
-        door: Time::Broken(5),
+        travel: Err(5),
+        door: Err(5),
     },
     Row {
         size: 10,
@@ -136,8 +121,8 @@ const ROWS: [Row; 44] = [
         byte: 1,
         records: 1,
         fault: Some(5),
-        travel: Time::Broken(5),
-        door: Time::Broken(5),
+        travel: Err(5),
+        door: Err(5),
     },
     Row {
         size: 11,
@@ -145,8 +130,8 @@ const ROWS: [Row; 44] = [
         byte: 1,
         records: 1,
         fault: Some(5),
-        travel: Time::Broken(5),
-        door: Time::Broken(5),
+        travel: Err(5),
+        door: Err(5),
     },
     Row {
         size: 12,
@@ -154,8 +139,8 @@ const ROWS: [Row; 44] = [
         byte: 1,
         records: 1,
         fault: Some(5),
-        travel: Time::Broken(5),
-        door: Time::Broken(5),
+        travel: Err(5),
+        door: Err(5),
     },
     Row {
         size: 13,
@@ -163,8 +148,8 @@ const ROWS: [Row; 44] = [
         byte: 1,
         records: 2,
         fault: None,
-        travel: Time::Is(63),
-        door: Time::Absent,
+        travel: Ok(Some(63)),
+        door: Ok(None),
     },
     Row {
         size: 14,
@@ -172,8 +157,8 @@ const ROWS: [Row; 44] = [
         byte: 1,
         records: 2,
         fault: Some(13),
-        travel: Time::Is(63),
-        door: Time::Broken(13),
+        travel: Ok(Some(63)),
+        door: Err(13),
     },
     Row {
         size: 15,
@@ -181,8 +166,8 @@ const ROWS: [Row; 44] = [
         byte: 1,
         records: 2,
         fault: Some(13),
-        travel: Time::Is(63),
-        door: Time::Broken(13),
+        travel: Ok(Some(63)),
+        door: Err(13),
     },
     Row {
         size: 16,
@@ -190,8 +175,8 @@ const ROWS: [Row; 44] = [
         byte: 1,
         records: 2,
         fault: Some(13),
-        travel: Time::Is(63),
-        door: Time::Broken(13),
+        travel: Ok(Some(63)),
+        door: Err(13),
     },
     Row {
         size: 17,
@@ -199,8 +184,8 @@ const ROWS: [Row; 44] = [
         byte: 1,
         records: 2,
         fault: Some(13),
-        travel: Time::Is(63),
-        door: Time::Broken(13),
+        travel: Ok(Some(63)),
+        door: Err(13),
     },
     Row {
         size: 18,
@@ -208,8 +193,8 @@ const ROWS: [Row; 44] = [
         byte: 1,
         records: 2,
         fault: Some(13),
-        travel: Time::Is(63),
-        door: Time::Broken(13),
+        travel: Ok(Some(63)),
+        door: Err(13),
     },
     Row {
         size: 19,
@@ -217,8 +202,8 @@ const ROWS: [Row; 44] = [
         byte: 1,
         records: 3,
         fault: None,
-        travel: Time::Is(63),
-        door: Time::Is(55),
+        travel: Ok(Some(63)),
+        door: Ok(Some(55)),
     },
     // the first record: its length, its kind, its payload
     Row {
@@ -227,8 +212,8 @@ const ROWS: [Row; 44] = [
         byte: 0,
         records: 1,
         fault: Some(4),
-        travel: Time::Broken(4),
-        door: Time::Broken(4),
+        travel: Err(4),
+        door: Err(4),
     },
     Row {
         size: 19,
@@ -236,8 +221,8 @@ const ROWS: [Row; 44] = [
         byte: 1,
         records: 0,
         fault: Some(0),
-        travel: Time::Broken(0),
-        door: Time::Broken(0),
+        travel: Err(0),
+        door: Err(0),
     },
     Row {
         size: 19,
@@ -245,8 +230,8 @@ const ROWS: [Row; 44] = [
         byte: 1,
         records: 0,
         fault: Some(0),
-        travel: Time::Broken(0),
-        door: Time::Broken(0),
+        travel: Err(0),
+        door: Err(0),
     },
     Row {
         size: 19,
@@ -254,8 +239,8 @@ const ROWS: [Row; 44] = [
         byte: 2,
         records: 0,
         fault: Some(0),
-        travel: Time::Broken(0),
-        door: Time::Broken(0),
+        travel: Err(0),
+        door: Err(0),
     },
     Row {
         size: 19,
@@ -263,8 +248,8 @@ const ROWS: [Row; 44] = [
         byte: 1,
         records: 3,
         fault: None,
-        travel: Time::Is(63),
-        door: Time::Is(55),
+        travel: Ok(Some(63)),
+        door: Ok(Some(55)),
     },
     Row {
         size: 19,
@@ -272,8 +257,8 @@ const ROWS: [Row; 44] = [
         byte: 8,
         records: 3,
         fault: None,
-        travel: Time::Is(63),
-        door: Time::Is(55),
+        travel: Ok(Some(63)),
+        door: Ok(Some(55)),
     },
     // the travel record: its length, its kind, its entries
     Row {
@@ -282,8 +267,8 @@ const ROWS: [Row; 44] = [
         byte: 2,
         records: 2,
         fault: Some(11),
-        travel: Time::Absent,
-        door: Time::Broken(11),
+        travel: Ok(None),
+        door: Err(11),
     },
     Row {
         size: 19,
@@ -291,8 +276,8 @@ const ROWS: [Row; 44] = [
         byte: 3,
         records: 1,
         fault: Some(5),
-        travel: Time::Broken(5),
-        door: Time::Broken(5),
+        travel: Err(5),
+        door: Err(5),
     },
     Row {
         size: 19,
@@ -300,8 +285,8 @@ const ROWS: [Row; 44] = [
         byte: 1,
         records: 1,
         fault: Some(5),
-        travel: Time::Broken(5),
-        door: Time::Broken(5),
+        travel: Err(5),
+        door: Err(5),
     },
     Row {
         size: 19,
@@ -309,8 +294,8 @@ const ROWS: [Row; 44] = [
         byte: 2,
         records: 3,
         fault: None,
-        travel: Time::Absent,
-        door: Time::Is(41),
+        travel: Ok(None),
+        door: Ok(Some(41)),
     },
     Row {
         size: 19,
@@ -318,8 +303,8 @@ const ROWS: [Row; 44] = [
         byte: 3,
         records: 3,
         fault: None,
-        travel: Time::Absent,
-        door: Time::Is(55),
+        travel: Ok(None),
+        door: Ok(Some(55)),
     },
     Row {
         size: 19,
@@ -327,8 +312,8 @@ const ROWS: [Row; 44] = [
         byte: 1,
         records: 3,
         fault: None,
-        travel: Time::Absent,
-        door: Time::Is(55),
+        travel: Ok(None),
+        door: Ok(Some(55)),
     },
     Row {
         size: 19,
@@ -336,8 +321,8 @@ const ROWS: [Row; 44] = [
         byte: 42,
         records: 3,
         fault: None,
-        travel: Time::Is(63),
-        door: Time::Is(55),
+        travel: Ok(Some(63)),
+        door: Ok(Some(55)),
     },
     Row {
         size: 19,
@@ -345,8 +330,8 @@ const ROWS: [Row; 44] = [
         byte: 1,
         records: 3,
         fault: None,
-        travel: Time::Is(63),
-        door: Time::Is(55),
+        travel: Ok(Some(63)),
+        door: Ok(Some(55)),
     },
     Row {
         size: 19,
@@ -354,8 +339,8 @@ const ROWS: [Row; 44] = [
         byte: 64,
         records: 3,
         fault: None,
-        travel: Time::Is(64),
-        door: Time::Is(55),
+        travel: Ok(Some(64)),
+        door: Ok(Some(55)),
     },
     Row {
         size: 19,
@@ -363,8 +348,8 @@ const ROWS: [Row; 44] = [
         byte: 1,
         records: 3,
         fault: None,
-        travel: Time::Is(319),
-        door: Time::Is(55),
+        travel: Ok(Some(319)),
+        door: Ok(Some(55)),
     },
     // the door record: its length, its kind, its entry
     Row {
@@ -373,8 +358,8 @@ const ROWS: [Row; 44] = [
         byte: 0,
         records: 3,
         fault: Some(17),
-        travel: Time::Is(63),
-        door: Time::Absent,
+        travel: Ok(Some(63)),
+        door: Ok(None),
     },
     Row {
         size: 19,
@@ -382,8 +367,8 @@ const ROWS: [Row; 44] = [
         byte: 1,
         records: 2,
         fault: Some(13),
-        travel: Time::Is(63),
-        door: Time::Broken(13),
+        travel: Ok(Some(63)),
+        door: Err(13),
     },
     Row {
         size: 19,
@@ -391,8 +376,8 @@ const ROWS: [Row; 44] = [
         byte: 3,
         records: 2,
         fault: Some(13),
-        travel: Time::Is(63),
-        door: Time::Broken(13),
+        travel: Ok(Some(63)),
+        door: Err(13),
     },
     Row {
         size: 19,
@@ -400,8 +385,8 @@ const ROWS: [Row; 44] = [
         byte: 1,
         records: 2,
         fault: Some(13),
-        travel: Time::Is(63),
-        door: Time::Broken(13),
+        travel: Ok(Some(63)),
+        door: Err(13),
     },
     Row {
         size: 19,
@@ -409,8 +394,8 @@ const ROWS: [Row; 44] = [
         byte: 1,
         records: 3,
         fault: None,
-        travel: Time::Is(63),
-        door: Time::Absent,
+        travel: Ok(Some(63)),
+        door: Ok(None),
     },
     Row {
         size: 19,
@@ -418,8 +403,8 @@ const ROWS: [Row; 44] = [
         byte: 1,
         records: 3,
         fault: None,
-        travel: Time::Is(63),
-        door: Time::Absent,
+        travel: Ok(Some(63)),
+        door: Ok(None),
     },
     Row {
         size: 19,
@@ -427,8 +412,8 @@ const ROWS: [Row; 44] = [
         byte: 56,
         records: 3,
         fault: None,
-        travel: Time::Is(63),
-        door: Time::Is(56),
+        travel: Ok(Some(63)),
+        door: Ok(Some(56)),
     },
     Row {
         size: 19,
@@ -436,8 +421,8 @@ const ROWS: [Row; 44] = [
         byte: 1,
         records: 3,
         fault: None,
-        travel: Time::Is(63),
-        door: Time::Is(311),
+        travel: Ok(Some(63)),
+        door: Ok(Some(311)),
     },
 ];
 
@@ -454,6 +439,11 @@ fn count_records(bytes: &[u8]) -> (usize, Option<Fault>) {
     (0, None)
 }
 
+/// The answer of a lookup.
+fn answer(time: Time) -> Result<Option<u16>, Fault> {
+    time.map_err(|place| at(Cause::BadRecord, place))
+}
+
 fn row_holds(row: Row) -> Result<(), Fail> {
     if row.size > 19 || row.at >= 19 {
         return Err(Fail::new("the row is past the table"));
@@ -463,12 +453,9 @@ fn row_holds(row: Row) -> Result<(), Fail> {
     let table = &bytes[0..row.size];
     let (count, refused) = count_records(table);
     check_eq(count, row.records)?;
-    match row.fault {
-        Some(place) => check_eq(refused, Some(at(Cause::BadRecord, place)))?,
-        None => check_eq(refused, None)?,
-    }
-    check_eq(travel_time(table, 1), row.travel.answer())?;
-    check_eq(door_time(table, 0), row.door.answer())
+    check_eq(refused, row.fault.map(|place| at(Cause::BadRecord, place)))?;
+    check_eq(travel_time(table, 1), answer(row.travel))?;
+    check_eq(door_time(table, 0), answer(row.door))
 }
 
 #[test]
