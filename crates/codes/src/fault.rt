@@ -105,6 +105,13 @@ impl Fault {
             place: 0,
         }
     }
+
+    /// The same refusal at another place.
+    pub fn at(self, place: usize) -> Fault
+        ensures { result ≡ fault self.cause self.layer place }
+    {
+        Fault { place, ..self }
+    }
 }
 
 impl fmt::Display for Fault {

@@ -25,8 +25,5 @@ fn check_eq<T: Debug + PartialEq + Drop>(found: T, wanted: T) -> Result<(), Fail
 
 /// A refusal at a place.
 fn at(cause: Cause, place: usize) -> Fault {
-    Fault {
-        place,
-        ..Fault::new(cause)
-    }
+    Fault::new(cause).at(place)
 }
