@@ -2,6 +2,7 @@ pub mod Polynomial
 pub mod Sound
 pub mod Generator
 pub mod Search
+pub mod Sought
 pub mod Code
 pub mod Codewords
 pub mod Linear

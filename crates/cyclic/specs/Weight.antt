@@ -122,10 +122,10 @@ ones_cleared_wrapping w fits =
     (cases_lt zero w)
 
 -- once as many ones were cleared as may be there, the word was light exactly where none is left
-pub light_by_clearing : (rest word more reach : ℕ) → more ≤ reach → ones rest ≡ ones word - (reach - more) → MatchBool (rest == zero) (ones word + more ≤ reach) (reach < ones word + more)
-light_by_clearing rest word more reach within left = by (rest == zero) refl
+pub light_by_clearing : (rest word most : ℕ) → ones rest ≡ ones word - most → MatchBool (rest == zero) (ones word ≤ most) (most < ones word)
+light_by_clearing rest word most left = by (rest == zero) refl
   where
-    by : (b : Bool) → (rest == zero) ≡ b → MatchBool b (ones word + more ≤ reach) (reach < ones word + more)
+    by : (b : Bool) → (rest == zero) ≡ b → MatchBool b (ones word ≤ most) (most < ones word)
     by true e = omega (arith, ap ones (eqb-true rest zero e), ones_zero)
     by false e =
         ⊎_elim

@@ -6,6 +6,7 @@ use crate::generator::Generator;
 
 mod calls;
 mod makers;
+mod rows;
 mod search;
 
 /// Codewords are the multiples of the generator of degree below n, with the parity in the low n-k bits.

@@ -40,6 +40,13 @@ impl Generator {
         }
     }
 
+    /// How many bits of a codeword are parity.
+    pub(crate) fn parity_bits(&self) -> u32
+        ensures { result ≡ parity_bits (numbers self.now) }
+    {
+        self.n - self.k
+    }
+
     /// x times a remainder, reduced by the generator.
     fn times_x(&self, remainder: u64) -> u64
         requires { remainder < 2 ^ parity_bits (numbers self.now) }
@@ -47,7 +54,7 @@ impl Generator {
     {
         // The carry is 0 or 1, and as hard to foretell as a coin: a product costs less than a branch.
         let shifted = remainder << 1;
-        let carry = shifted >> (self.n - self.k);
+        let carry = shifted >> self.parity_bits();
         shifted ^ self.polynomial * carry
     }
 
@@ -71,8 +78,8 @@ impl Generator {
     {
         let mut rows = [0; 42];
         let mut row = 1;
-        for i in 0..self.n {
-            rows[i as usize] = row;
+        for entry in &mut rows[..self.n as usize] {
+            *entry = row;
             row = self.times_x(row);
         }
         rows

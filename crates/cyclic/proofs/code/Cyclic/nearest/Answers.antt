@@ -1,21 +1,23 @@
-use Rattle.std.proofs.Common.{ℕ, sym, subst}
+use Rattle.std.proofs.Common.{◌≡◌, ℕ, MatchOption, sym, subst, rules}
 use Rattle.codes.specs.Interface.{Corrects}
-use Rattle.cyclic.specs.Generator.{numbers, code_of}
+use Rattle.cyclic.specs.Generator.{numbers, code_of, syndrome}
+use Rattle.cyclic.specs.Code.{correction}
 use Rattle.cyclic.specs.Search.{Pattern}
 use Rattle.cyclic.specs.Facts.{facts}
 use Rattle.cyclic.proofs.Reach.{found, none_found}
+use Rattle.cyclic.proofs.Search.{along, mapped}
 use Rattle.cyclic.proofs.code.Cyclic.nearest.Goals as goal
 
-pub returns-in-Some : goal.returns-in-Some
-returns-in-Some c =
+pub returns : goal.returns
+returns c =
     let code = c.args.self.now.generator in
-    let e = c.in-Some.pattern in
-    subst (Corrects (code_of (numbers code)) c.args.word) (sym c.correction.ensures)
-    (found (numbers code) (facts code) c.args.word e c.requires
-    (subst (λ (s : ℕ). Pattern (numbers code) code.t s e) c.remainder-syndrome.ensures.value c.in-Some.ensures))
-
-pub returns-in-None : goal.returns-in-None
-returns-in-None c =
-    let code = c.args.self.now.generator in
-    none_found (numbers code) (facts code) c.args.word c.requires
-    (subst (λ (s : ℕ). (e : ℕ) → Pattern (numbers code) code.t s e → ⊥) c.remainder-syndrome.ensures.value c.in-None.ensures)
+    let f = facts code in
+    mapped (Pattern (numbers code) code.t (syndrome (numbers code) c.args.word)) (Corrects (code_of (numbers code)) c.args.word) _ c.pattern.result c.map.result
+    (none_found (numbers code) f c.args.word c.requires)
+    (λ e x p made.
+    let is : x ≡ correction (numbers code) c.args.word e = search rules in
+    subst (Corrects (code_of (numbers code)) c.args.word) (sym is) (found (numbers code) f c.args.word e c.requires p))
+    (along (λ k y. MatchOption c.pattern.result
+    ((e : ℕ) → Pattern (numbers k.generator) k.generator.t y e → ⊥) (Pattern (numbers k.generator) k.generator.t y))
+    c.of.result c.of.ensures.code c.of.ensures.syndrome c.pattern.ensures)
+    c.map.ensures.cases

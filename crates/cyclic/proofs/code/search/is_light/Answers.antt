@@ -1,10 +1,16 @@
-use Rattle.std.proofs.Common.{◌≡◌, ◌-◌, ap, ◌∙◌, arith}
+use Rattle.std.proofs.Common.{◌≡◌, ℕ, ◌-◌, List, length, ◌∷◌, [], length-append, rules, arith}
+use Rattle.std.proofs.iter.Yields.{nat_range_steps, Range-gives}
+use Rattle.std.proofs.lemmas.Fn.{fold_over}
+use Rattle.std.specs.List.{range_with_len}
+use Rattle.std.proofs.lemmas.List.FromFn.{length-range_with_len}
 use lib.Count.{ones}
 use Rattle.cyclic.specs.Weight.{light_by_clearing}
 use Rattle.cyclic.proofs.code.search.is_light.Goals as goal
 
 pub returns : goal.returns
 returns c =
-    let all : c.loop-done._done ≡ c.args.reach = omega (arith, c.loop-done.auto._done-end c.if-reach-more.false) in
-    light_by_clearing c.loop-done.rest c.args.word c.args.more c.args.reach c.if-reach-more.false
-    (c.loop-done.invariant ∙ ap (λ x. ones c.args.word - (x - c.args.more)) all)
+    let left : ones c.fold.result ≡ ones c.args.word - length (range_with_len 0 (c.args.most - 0)) =
+    fold_over nat_range_steps (λ x. x) _ (λ (ys : List ℕ) (a : ℕ). ones a ≡ ones c.args.word - length ys) _
+    (λ ys a x b f' h k. let one : ones b ≡ ones a - 1 = search rules in (omega (arith, length-append ys (x ∷ [])), search rules))
+    (record { start = 0; end = c.args.most }) _ c.args.word c.fold.result (Range-gives (record { start = 0; end = c.args.most })) (omega arith) c.fold.ensures.ran in
+    light_by_clearing c.fold.result c.args.word c.args.most (omega (arith, left, length-range_with_len 0 (c.args.most - 0)))
