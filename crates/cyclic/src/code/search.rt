@@ -4,21 +4,6 @@ ghost use Rattle.cyclic.specs.Generator.{numbers, parity_bits, syndrome};
 
 use super::Cyclic;
 
-/// A word without its lowest one.
-fn clear_lowest(word: u64) -> u64
-    ensures { count_ones result ≡ count_ones word - 1 }
-{
-    word & word.wrapping_sub(1)
-}
-
-/// Whether a word has at most so many ones.
-/// As many are cleared, and none may be left: the target cannot count ones in one step.
-fn is_light(word: u64, most: u32) -> bool
-    ensures { MatchBool result (count_ones word ≤ most) (most < count_ones word) }
-{
-    (0..most).fold(word, |rest, _| clear_lowest(rest)) == 0
-}
-
 /// A code, and the syndrome that a pattern is searched for.
 #[derive(Clone, Copy)]
 pub(super) struct Search<'a> {
@@ -68,7 +53,7 @@ impl<'a> Search<'a> {
             let one = self.syndrome ^ first;
             for (j, second) in rows[i + 1..].iter().enumerate() {
                 let two = one ^ second;
-                if is_light(two, most) {
+                if two.count_ones() <= most {
                     found = Some(two ^ code.message_flip(i + 1 + j) ^ code.message_flip(i));
                     break 'pairs;
                 }

@@ -5,8 +5,8 @@ use Rattle.cyclic.specs.Sought.{searched}
 use Rattle.cyclic.proofs.Search.{two_flips}
 use Rattle.cyclic.proofs.code.search.Search.two_message_flips.Goals as goal
 
-pub returns-then-is_light : goal.returns-then-is_light
-returns-then-is_light c =
+pub returns-then-two-most : goal.returns-then-two-most
+returns-then-two-most c =
     let self = c.args.self.now in
     let rows = c.message_rows-rows.result.now in
     let size = c.message_rows-rows.ensures.size in
@@ -14,8 +14,8 @@ returns-then-is_light c =
     let within : c.loop-j.j < length rows - next = omega arith in
     let second : get_or (take (length rows - next) (drop next rows)) c.loop-j.j 0 ≡ get_or rows (next + c.loop-j.j) 0 =
     get_or-take (length rows - next) (drop next rows) c.loop-j.j 0 within ∙ get_or-drop next rows c.loop-j.j 0 in
-    let light = rw second at c.if-is_light.ensures in
+    let light = rw second at c.if-two-most.true in
     rw second
     (two_flips (searched self) (facts self.code.now.generator) rows c.message_rows-rows.ensures self.syndrome c.pairs.i (next + c.loop-j.j)
-    c.message_flip-then-is_light.result c.message_flip.result self.below (omega arith) (omega arith)
-    c.message_flip-then-is_light.ensures c.message_flip.ensures (omega arith))
+    c.message_flip-then-two-most.result c.message_flip.result self.below (omega arith) (omega arith)
+    c.message_flip-then-two-most.ensures c.message_flip.ensures (omega (arith, light, c.in_ok-most.ensures)))
