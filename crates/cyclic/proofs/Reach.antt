@@ -47,6 +47,12 @@ module _ (c : Numbers) (f : Holds c) where
         light = subst (λ (x : ℕ). x ≤ c.t) (sym (rotate_ones c.n r c.k other e p.below)) p.light;
       }
 
+  -- a pattern has at most two flips in message bits, or more
+  pub either_way : {s : ℕ} → ((e : ℕ) → Pattern c c.t s e → ones (e / 2 ^ parity_bits c) ≤ 2 → ⊥)
+      → ((e : ℕ) → Pattern c c.t s e → 2 < ones (e / 2 ^ parity_bits c) → ⊥)
+      → (e : ℕ) → Pattern c c.t s e → ⊥
+  either_way few many e p = ⊎_elim (many e p) (few e p) (cases_lt 2 (ones (e / 2 ^ parity_bits c)))
+
   -- Of at most four flips at most two are in message bits, or they are once the word is rotated.
   none_many : (s : ℕ) → s < 2 ^ parity_bits c
       → ((e : ℕ) → Pattern c c.t (syndrome c (s * 2 ^ parity_bits c)) e → ones (e / 2 ^ parity_bits c) ≤ 2 → ⊥)
@@ -59,6 +65,12 @@ module _ (c : Numbers) (f : Holds c) where
         ones_parts e (parity_bits c),
         rotated_message (parity_bits c) c.generator c.n c.k c.t f.parts f.half f.cyclic f.heavy e p.below,
       ))
+
+  pub none_either_way : (s : ℕ) → s < 2 ^ parity_bits c
+      → ((e : ℕ) → Pattern c c.t s e → ones (e / 2 ^ parity_bits c) ≤ 2 → ⊥)
+      → ((e : ℕ) → Pattern c c.t (syndrome c (s * 2 ^ parity_bits c)) e → ones (e / 2 ^ parity_bits c) ≤ 2 → ⊥)
+      → (e : ℕ) → Pattern c c.t s e → ⊥
+  none_either_way s h here rotated e p = either_way here (none_many s h rotated) e p
 
   -- the shifts and the mask of a rotation, within 64 bits
   pub rotates : (w : ℕ) → w < 2 ^ c.n
