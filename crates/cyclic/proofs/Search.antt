@@ -1,5 +1,5 @@
 -- What the search has passed over, and that nothing else is left.
-use Rattle.std.proofs.Common.{◌≡◌, ℕ, zero, suc, ◌+◌, ◌*◌, ◌/◌, ◌%◌, ◌^◌, ◌<◌, ◌≤◌, ◌⊎◌, List, get_or, Some, None, Option, sym, refl, ap, ◌∙◌, subst, ap₂, inl, inr, le_trans, le_refl, lt_of_lt_of_le, eq-zero-or-pos, zero-mul, arith, pow_mono, pow-add, shr_lt, MatchOption, IsSomeAnd}
+use Rattle.std.proofs.Common.{◌≡◌, ℕ, zero, suc, ◌+◌, ◌-◌, ◌*◌, ◌/◌, ◌%◌, ◌^◌, ◌<◌, ◌≤◌, ◌⊎◌, List, get_or, Some, None, Option, sym, refl, ap, ◌∙◌, subst, ap₂, inl, inr, le_trans, le_refl, lt_of_lt_of_le, eq-zero-or-pos, zero-mul, arith, pow_mono, pow-add, shr_lt, MatchOption, IsSomeAnd}
 use lib.Pow.{pow-lt}
 use lib.Bits.{bit_xor, xor_lt, xor_assoc, xor_self, xor_comm, xor_zero_r}
 use lib.Count.{ones}
@@ -144,3 +144,11 @@ module _ (c : Numbers) (f : Holds c) (xs : List ℕ) (table : MessageTable c xs)
       (flip_entry (ones two + 1) s e i x hi isx
       (flip_entry (ones two) one two j y hj isy (parity_only c f two (difference_lt one j (difference_lt s i hs hi) hj))))
       (omega arith)
+
+  -- where each row leaves too many, no single message bit will do
+  pub all_heavy : (s : ℕ) → ((i : ℕ) → i < c.k → c.t ≤ ones (bit_xor s (entry xs i))) → Singles c s c.n
+  all_heavy s heavy a from to =
+      let i = a - parity_bits c in
+      let within : i < c.k = omega (arith, f.parts) in
+      let is : parity_bits c + i ≡ a = omega arith in
+      subst (λ (x : ℕ). c.t < ones (bit_xor s (row_of c x)) + 1) is (omega (arith, heavy i within, ap (λ (x : ℕ). ones (bit_xor s x)) (table.at i within)))

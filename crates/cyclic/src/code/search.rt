@@ -31,14 +31,13 @@ impl<'a> Search<'a> {
         ensures { MatchOption result (NoSingle self.now) (Sought self.now) }
     {
         let code = self.code;
+        let syndrome = self.syndrome;
+        let reach = code.generator.t;
         let rows = code.message_rows();
-        for (i, row) in rows.iter().enumerate() {
-            let one = self.syndrome ^ row;
-            if one.count_ones() < code.generator.t {
-                return Some(one ^ code.message_flip(i));
-            }
-        }
-        None
+        let i = rows
+            .iter()
+            .position(|row| (syndrome ^ row).count_ones() < reach)?;
+        Some(syndrome ^ rows[i] ^ code.message_flip(i))
     }
 
     /// A pattern with two flips among the message bits. The first pair that is light enough ends the search.
