@@ -1,5 +1,6 @@
 -- What the search has passed over, and that nothing else is left.
-use Rattle.std.proofs.Common.{◌≡◌, ℕ, zero, suc, ◌+◌, ◌-◌, ◌*◌, ◌/◌, ◌%◌, ◌^◌, ◌<◌, ◌≤◌, ◌⊎◌, List, get_or, Some, None, Option, sym, refl, ap, ◌∙◌, subst, ap₂, inl, inr, le_trans, le_refl, lt_of_lt_of_le, eq-zero-or-pos, zero-mul, arith, pow_mono, pow-add, shr_lt, MatchOption, IsSomeAnd}
+use Rattle.std.proofs.Common.{◌≡◌, ℕ, zero, suc, ◌+◌, ◌-◌, ◌*◌, ◌/◌, ◌%◌, ◌^◌, ◌<◌, ◌≤◌, ◌⊎◌, List, get_or, Some, None, Option, sym, refl, ap, ◌∙◌, subst, ap₂, inl, inr, le_trans, le_refl, lt_of_lt_of_le, eq-zero-or-pos, zero-mul, arith, pow_mono, pow-add, shr_lt, MatchOption, IsSomeAnd, length, take, drop}
+use Rattle.std.proofs.lemmas.List.{length-take, get_or-take, get_or-drop}
 use lib.Pow.{pow-lt}
 use lib.Bits.{bit_xor, xor_lt, xor_assoc, xor_self, xor_comm, xor_zero_r}
 use lib.Count.{ones}
@@ -115,6 +116,12 @@ mapped P Q R (Some e) None none some p made = absurd made
 abbrev pub entry : List ℕ → ℕ → ℕ
 entry xs i = get_or xs i 0
 
+-- a row of the slice from m on
+pub entry_after : (xs : List ℕ) (m n j : ℕ) → j < length (take n (drop m xs)) → entry (take n (drop m xs)) j ≡ entry xs (m + j)
+entry_after xs m n j h =
+    let below : j < n = omega (arith, length-take n (drop m xs)) in
+    get_or-take n (drop m xs) j 0 below ∙ get_or-drop m xs j 0
+
 module _ (c : Numbers) (f : Holds c) (xs : List ℕ) (table : MessageTable c xs) where
   pub difference_lt : (s i : ℕ) → s < 2 ^ parity_bits c → i < c.k → bit_xor s (entry xs i) < 2 ^ parity_bits c
   difference_lt s i hs h =
@@ -133,16 +140,18 @@ module _ (c : Numbers) (f : Holds c) (xs : List ℕ) (table : MessageTable c xs)
       let d = bit_xor s (entry xs i) in
       within c f (ones d + 1) s (bit_xor d x) (flip_entry (ones d) s d i x h is (parity_only c f d (difference_lt s i hs h))) (omega arith)
 
-  pub two_flips : (s i j x y : ℕ) → s < 2 ^ parity_bits c → i < c.k → j < c.k → x ≡ 2 ^ (parity_bits c + i) → y ≡ 2 ^ (parity_bits c + j)
-      → ones (bit_xor (bit_xor s (entry xs i)) (entry xs j)) + 2 ≤ c.t
-      → Pattern c c.t s (bit_xor (bit_xor (bit_xor (bit_xor s (entry xs i)) (entry xs j)) y) x)
-  two_flips s i j x y hs hi hj isx isy le =
+  pub two_flips : (s i j x y z : ℕ) → s < 2 ^ parity_bits c → i < c.k → j < c.k → x ≡ 2 ^ (parity_bits c + i) → y ≡ 2 ^ (parity_bits c + j) → z ≡ entry xs j
+      → ones (bit_xor (bit_xor s (entry xs i)) z) + 2 ≤ c.t
+      → Pattern c c.t s (bit_xor (bit_xor (bit_xor (bit_xor s (entry xs i)) z) y) x)
+  two_flips s i j x y z hs hi hj isx isy isz le =
       let one = bit_xor s (entry xs i) in
-      let two = bit_xor one (entry xs j) in
+      let two = bit_xor one z in
       let e = bit_xor two y in
+      let small : two < 2 ^ parity_bits c = subst (λ (w : ℕ). bit_xor one w < 2 ^ parity_bits c) (sym isz) (difference_lt one j (difference_lt s i hs hi) hj) in
+      let parity : Pattern c (ones two) (bit_xor one (entry xs j)) two =
+      subst (λ (w : ℕ). Pattern c (ones two) (bit_xor one w) two) isz (parity_only c f two small) in
       within c f (ones two + 1 + 1) s (bit_xor e x)
-      (flip_entry (ones two + 1) s e i x hi isx
-      (flip_entry (ones two) one two j y hj isy (parity_only c f two (difference_lt one j (difference_lt s i hs hi) hj))))
+      (flip_entry (ones two + 1) s e i x hi isx (flip_entry (ones two) one two j y hj isy parity))
       (omega arith)
 
   -- where each row leaves too many, no single message bit will do

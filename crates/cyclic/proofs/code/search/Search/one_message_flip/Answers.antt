@@ -1,4 +1,4 @@
-use Rattle.std.proofs.Common.{◌<◌, ◌≤◌, length, MatchOption, rules, arith, ltb-true, ltb-false, zero-le}
+use Rattle.std.proofs.Common.{◌<◌, ◌≤◌, length, MatchOption, rules, arith, tests, zero-le}
 use Rattle.std.specs.List.{AllWithin, HoldsAt}
 use Rattle.std.proofs.lemmas.Iterator.{IsFirst-from_position, YieldsList-from_slice}
 use Rattle.std.proofs.lemmas.Option.{MatchOption-at_some, MatchOption-at_none}
@@ -22,7 +22,7 @@ first c =
     let rows = c.message_rows-rows.result.now in
     let t = self.code.now.generator.t in
     IsFirst-from_position _ _ c.position.result (λ row. ones (bit_xor self.syndrome row) < t) (λ row. t ≤ ones (bit_xor self.syndrome row))
-    c.position.ensures.ran (YieldsList-from_slice rows (cc)) (λ x q k. ltb-true _ _ (search rules)) (λ x q k. (search rules, ltb-false _ _ (search rules)))
+    c.position.ensures.ran (YieldsList-from_slice rows (cc)) (λ x q k. search (rules, tests)) (λ x q k. search (rules, tests))
 
 pub returns : goal.returns
 returns c =
