@@ -34,29 +34,11 @@ impl Cyclic {
         }
     }
 
-    /// The correction of a word, or `None` where no codeword is within reach.
-    fn nearest(&self, word: u64) -> Option<Correction>
-        requires { word < 2 ^ self.now.generator.n }
-        ensures { MatchOption result (Beyond (meaning_of self.now) word) (Corrects (meaning_of self.now) word) }
-    {
-        Search::of(self, word)
-            .pattern()
-            .map(|pattern| self.correction(word, pattern))
-    }
-
-    /// Whether a word of n bits is a codeword.
-    fn has_no_remainder(&self, word: u64) -> bool
-        requires { word < 2 ^ self.now.generator.n }
-        ensures { result ≡ (meaning_of self.now).codeword word }
-    {
-        self.generator.remainder(word) == 0
-    }
-
     /// Whether a word is a codeword, by its remainder.
     pub fn is_codeword(&self, word: u64) -> bool
         ensures { result ≡ (meaning_of self.now).codeword word }
     {
-        fits_in(word, self.generator.n) && self.has_no_remainder(word)
+        fits_in(word, self.generator.n) && self.generator.remainder(word) == 0
     }
 }
 
@@ -84,6 +66,9 @@ impl Code for Cyclic {
         if !fits_in(word, self.generator.n) {
             return Err(Fault::new(Cause::WordTooLong));
         }
-        self.nearest(word).ok_or(Fault::new(Cause::BeyondReach))
+        Search::of(self, word)
+            .pattern()
+            .map(|pattern| self.correction(word, pattern))
+            .ok_or(Fault::new(Cause::BeyondReach))
     }
 }

@@ -1,23 +1,27 @@
-use Rattle.std.proofs.Common.{◌≡◌, ℕ, MatchOption, sym, subst, rules}
+use Rattle.std.proofs.Common.{◌^◌, ◌<◌, ◌≡◌, ℕ, MatchOption, sym, subst, rules}
 use Rattle.codes.specs.Interface.{Corrects}
+use Rattle.codes.specs.Meaning.{Beyond}
 use Rattle.cyclic.specs.Generator.{numbers, code_of, syndrome}
 use Rattle.cyclic.specs.Code.{correction}
 use Rattle.cyclic.specs.Search.{Pattern}
 use Rattle.cyclic.specs.Facts.{facts}
 use Rattle.cyclic.proofs.Reach.{found, none_found}
 use Rattle.cyclic.proofs.Search.{along, mapped}
-use Rattle.cyclic.proofs.code.Cyclic.nearest.Goals as goal
+use Rattle.cyclic.proofs.code.calls.CyclicCode.correct.Goals as goal
 
 pub returns : goal.returns
 returns c =
     let code = c.args.self.now.generator in
     let f = facts code in
+    let fits : c.args.word < 2 ^ code.n = c.if-not-fits_in.ensures in
+    let near : MatchOption c.map.result (Beyond (code_of (numbers code)) c.args.word) (Corrects (code_of (numbers code)) c.args.word) =
     mapped (Pattern (numbers code) code.t (syndrome (numbers code) c.args.word)) (Corrects (code_of (numbers code)) c.args.word) _ c.pattern.result c.map.result
-    (none_found (numbers code) f c.args.word c.requires)
+    (none_found (numbers code) f c.args.word fits)
     (λ e x p made.
     let is : x ≡ correction (numbers code) c.args.word e = search rules in
-    subst (Corrects (code_of (numbers code)) c.args.word) (sym is) (found (numbers code) f c.args.word e c.requires p))
+    subst (Corrects (code_of (numbers code)) c.args.word) (sym is) (found (numbers code) f c.args.word e fits p))
     (along (λ k y. MatchOption c.pattern.result
     ((e : ℕ) → Pattern (numbers k.generator) k.generator.t y e → ⊥) (Pattern (numbers k.generator) k.generator.t y))
     c.of.result c.of.ensures.code c.of.ensures.syndrome c.pattern.ensures)
-    c.map.ensures.cases
+    c.map.ensures.cases in
+    search rules
