@@ -4,8 +4,6 @@ use Rattle.std.proofs.lemmas.List.{length-take, get_or-take, get_or-drop}
 use lib.Pow.{pow-lt}
 use lib.Bits.{bit_xor, xor_lt, xor_assoc, xor_self, xor_comm, xor_zero_r}
 use lib.Count.{ones}
-use Rattle.cyclic.specs.declared.code.Cyclic.{Cyclic}
-use Rattle.cyclic.specs.declared.code.search.Search.{Search}
 use Rattle.cyclic.specs.Generator.{Numbers, parity_bits, syndrome}
 use Rattle.cyclic.specs.Search.{Pattern, MessageTable, row_of, Singles, Pairs}
 use Rattle.cyclic.specs.Linear.{remainder_zero, remainder_small, remainder_xor, xor_shl, xor_cancel}
@@ -94,10 +92,6 @@ module _ (c : Numbers) (f : Holds c) where
       by_count (suc (suc (suc w))) v h = absurd (omega arith)
 
 -- ---- answers of a search
-
--- a fact of a search, said of its code and its syndrome
-pub along : (F : Cyclic → ℕ → Type 0) (s : Search) {code : Cyclic} {y : ℕ} → s.code.now ≡ code → s.syndrome ≡ y → F s.code.now s.syndrome → F code y
-along F s {code} {y} a b p = subst (λ (k : Cyclic). F k y) a (subst (F s.code.now) b p)
 
 -- where nothing is found, more may be known of that
 pub none_weaker : {A B : Type 0} (P : ℕ → Type 0) (r : Option ℕ) → (A → B) → MatchOption r A P → MatchOption r B P

@@ -66,7 +66,11 @@ impl Code for Cyclic {
         if !fits_in(word, self.generator.n) {
             return Err(Fault::new(Cause::WordTooLong));
         }
-        Search::of(self, word)
+        let search = Search {
+            code: self,
+            syndrome: self.generator.remainder(word),
+        };
+        search
             .pattern()
             .map(|pattern| self.correction(word, pattern))
             .ok_or(Fault::new(Cause::BeyondReach))

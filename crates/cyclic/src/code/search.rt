@@ -1,30 +1,20 @@
 //! The search for a pattern of at most t flips with a given syndrome.
 ghost use Rattle.std.specs.Prelude.{◌≡◌, ◌+◌, ◌-◌, ◌^◌, ◌<◌, ◌≤◌, MatchBool, count_ones};
-ghost use Rattle.cyclic.specs.Generator.{numbers, parity_bits, syndrome};
+ghost use Rattle.cyclic.specs.Generator.{numbers, parity_bits};
 
 use super::Cyclic;
 
 /// A code, and the syndrome that a pattern is searched for.
 #[derive(Clone, Copy)]
 pub(super) struct Search<'a> {
-    code: &'a Cyclic,
-    syndrome: u64,
+    pub(super) code: &'a Cyclic,
+    pub(super) syndrome: u64,
     ghost below: { syndrome < 2 ^ parity_bits (numbers code.now.generator) },
 }
 
-impl<'a> Search<'a> {
+impl Search<'_> {
     ghost use Rattle.std.specs.Prelude.{MatchOption};
     ghost use Rattle.cyclic.specs.Sought.{Sought, NoSingle, NoPair, NoneWithFew, NoneWithMany, NoneAtAll};
-
-    /// The search for the flips of a word.
-    pub(super) fn of(code: &'a Cyclic, word: u64) -> Search<'a>
-        requires { word < 2 ^ code.now.generator.n }
-        ensures code { result.code.now ≡ code.now }
-        ensures syndrome { result.syndrome ≡ syndrome (numbers code.now.generator) word }
-    {
-        let syndrome = code.generator.remainder(word);
-        Search { code, syndrome }
-    }
 
     /// A pattern with one flip among the message bits.
     fn one_message_flip(&self) -> Option<u64>
@@ -80,7 +70,11 @@ impl<'a> Search<'a> {
         ensures { MatchOption result (NoneWithMany self.now) (Sought self.now) }
     {
         let code = self.code;
-        let rotated = Search::of(code, self.syndrome << code.generator.parity_bits());
+        let word = self.syndrome << code.generator.parity_bits();
+        let rotated = Search {
+            code,
+            syndrome: code.generator.remainder(word),
+        };
         rotated
             .few_message_flips()
             .map(|pattern| code.rotate_back(pattern))

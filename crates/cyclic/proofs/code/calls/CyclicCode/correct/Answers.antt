@@ -6,7 +6,7 @@ use Rattle.cyclic.specs.Code.{correction}
 use Rattle.cyclic.specs.Search.{Pattern}
 use Rattle.cyclic.specs.Facts.{facts}
 use Rattle.cyclic.proofs.Reach.{found, none_found}
-use Rattle.cyclic.proofs.Search.{along, mapped}
+use Rattle.cyclic.proofs.Search.{mapped}
 use Rattle.cyclic.proofs.code.calls.CyclicCode.correct.Goals as goal
 
 pub returns : goal.returns
@@ -20,8 +20,6 @@ returns c =
     (λ e x p made.
     let is : x ≡ correction (numbers code) c.args.word e = search rules in
     subst (Corrects (code_of (numbers code)) c.args.word) (sym is) (found (numbers code) f c.args.word e fits p))
-    (along (λ k y. MatchOption c.pattern.result
-    ((e : ℕ) → Pattern (numbers k.generator) k.generator.t y e → ⊥) (Pattern (numbers k.generator) k.generator.t y))
-    c.of.result c.of.ensures.code c.of.ensures.syndrome c.pattern.ensures)
+    (subst (λ (y : ℕ). MatchOption c.pattern.result ((e : ℕ) → Pattern (numbers code) code.t y e → ⊥) (Pattern (numbers code) code.t y)) c.remainder.ensures.value c.pattern.ensures)
     c.map.ensures.cases in
     search rules
