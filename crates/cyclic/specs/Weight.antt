@@ -1,11 +1,9 @@
 -- The weight of a power of two, and the words of weight 0, 1 and 2.
-use Rattle.std.specs.Prelude.{◌≡◌, ℕ, zero, suc, ◌+◌, ◌-◌, ◌*◌, ◌/◌, ◌%◌, ◌^◌, ◌<◌, ◌≤◌, min, Bool, true, false, MatchBool, ◌==◌, bit_and, bit_xor, refl}
-use Rattle.std.proofs.Common.{sym, ap, ap₂, ◌∙◌, subst, suc-le-suc, div-add-mod', mod-lt, zero-lt-suc, add-zero, one-mul, pow-suc, add-one, arith, ⊎_elim, pow_pos, shr_lt}
+use Rattle.std.specs.Prelude.{◌≡◌, ℕ, zero, suc, ◌*◌, ◌/◌, ◌%◌, ◌^◌, ◌<◌, bit_xor, refl}
+use Rattle.std.proofs.Common.{sym, ap, ap₂, ◌∙◌, subst, suc-le-suc, div-add-mod', mod-lt, zero-lt-suc, add-zero, one-mul, pow-suc, add-one, arith, pow_pos, shr_lt}
 use Rattle.std.proofs.Math.Arith.{bin_ind, lt-one}
 use Rattle.std.proofs.lemmas.Nat.{xor_comm, ones_cat}
-use Rattle.std.specs.Int.Bits.{and_step, and_self, and_zero_l}
 use Rattle.std.specs.Int.Count.{ones, ones_in, ones_step}
-use Rattle.std.proofs.lemmas.Bool.{cases_lt, eqb-true, eqb-false}
 use Rattle.cyclic.specs.Linear.{xor_shl, low_digit}
 
 pub ones_zero : ones zero ≡ zero
@@ -66,69 +64,3 @@ two_bits (suc d) m h e = by_digit (m % 2) refl (mod-lt m (zero-lt-suc 1)) (two_b
           sym (low_digit m) ∙ ap₂ bit_xor (ap (λ (x : ℕ). x * 2) t.2 ∙ sym (pow-suc 2 t.0)) b ∙ xor_comm (2 ^ suc t.0) 1,
         )
     by_digit (suc (suc c)) b lt rest = absurd (omega arith)
-
--- clearing the lowest one of a word: 0 stays, an odd word loses its last digit, and an even one is cleared above it
-module _ (w : ℕ) where
-  cleared_odd : w % 2 ≡ 1 → bit_and w (w - 1) ≡ w / 2 * 2
-  cleared_odd odd =
-      let half : (w - 1) / 2 ≡ w / 2 = omega (arith, div-add-mod' w 2) in
-      let low : (w - 1) % 2 ≡ zero = omega (arith, div-add-mod' w 2) in
-      let same = ap (bit_and (w / 2)) half ∙ and_self (w / 2) in
-      let last : min (w % 2) ((w - 1) % 2) ≡ zero = ap₂ min odd low in
-      omega (arith, and_step w (w - 1), same, last)
-
-  cleared_even : zero < w → w % 2 ≡ zero → bit_and w (w - 1) ≡ bit_and (w / 2) (w / 2 - 1) * 2
-  cleared_even some even =
-      let half : (w - 1) / 2 ≡ w / 2 - 1 = omega (arith, div-add-mod' w 2) in
-      let low : (w - 1) % 2 ≡ 1 = omega (arith, div-add-mod' w 2) in
-      let same = ap (bit_and (w / 2)) half in
-      let last : min (w % 2) ((w - 1) % 2) ≡ zero = ap₂ min even low in
-      omega (arith, and_step w (w - 1), same, last)
-
-ones_twice : (x q : ℕ) → x ≡ q * 2 → ones x ≡ ones q
-ones_twice x q e =
-    let half : x / 2 ≡ q = omega arith in
-    omega (arith, ones_step x, ap ones half)
-
-ones_cleared_none : ones (bit_and zero (zero - 1)) ≡ ones zero - 1
-ones_cleared_none = omega (arith, ap ones (and_zero_l (zero - 1)), ones_zero)
-
-pub ones_cleared : (w : ℕ) → ones (bit_and w (w - 1)) ≡ ones w - 1
-ones_cleared =
-    bin_ind (λ (w : ℕ). ones (bit_and w (w - 1)) ≡ ones w - 1) ones_cleared_none
-    (λ w ih.
-    ⊎_elim
-    (λ even.
-    ⊎_elim
-    (λ some. omega (arith, ones_step w, ones_twice (bit_and w (w - 1)) (bit_and (w / 2) (w / 2 - 1)) (cleared_even w some (omega arith)), ih))
-    (λ none. let z : w ≡ zero = omega arith in subst (λ (x : ℕ). ones (bit_and x (x - 1)) ≡ ones x - 1) (sym z) ones_cleared_none)
-    (cases_lt zero w))
-    (λ odd.
-    let one : w % 2 ≡ 1 = omega (arith, mod-lt w (zero-lt-suc 1)) in
-    omega (arith, ones_step w, ones_twice (bit_and w (w - 1)) (w / 2) (cleared_odd w one)))
-    (cases_lt (w % 2) 1))
-
--- the same with the word less 1 as 64 bits have it, where 0 wraps
-pub ones_cleared_wrapping : (w : ℕ) → w < 2 ^ 64 → ones (bit_and w ((w + 18446744073709551615) % 18446744073709551616)) ≡ ones w - 1
-ones_cleared_wrapping w fits =
-    ⊎_elim
-    (λ some.
-    let less : (w + 18446744073709551615) % 18446744073709551616 ≡ w - 1 = omega arith in
-    ap (λ (x : ℕ). ones (bit_and w x)) less ∙ ones_cleared w)
-    (λ none.
-    let z : w ≡ zero = omega arith in
-    subst (λ (x : ℕ). ones (bit_and x ((x + 18446744073709551615) % 18446744073709551616)) ≡ ones x - 1) (sym z)
-    (omega (arith, ap ones (and_zero_l ((zero + 18446744073709551615) % 18446744073709551616)), ones_zero)))
-    (cases_lt zero w)
-
--- once as many ones were cleared as may be there, the word was light exactly where none is left
-pub light_by_clearing : (rest word most : ℕ) → ones rest ≡ ones word - most → MatchBool (rest == zero) (ones word ≤ most) (most < ones word)
-light_by_clearing rest word most left = by (rest == zero) refl
-  where
-    by : (b : Bool) → (rest == zero) ≡ b → MatchBool b (ones word ≤ most) (most < ones word)
-    by true e = omega (arith, ap ones (eqb-true rest zero e), ones_zero)
-    by false e =
-        ⊎_elim
-        (λ (some : zero < ones rest). omega arith)
-        (λ (none : ones rest ≤ zero). absurd (eqb-false rest zero e (ones_none rest (omega arith))))
-        (cases_lt zero (ones rest))

@@ -13,6 +13,7 @@ mod search;
 #[derive(Clone, Copy)]
 pub struct Cyclic {
     generator: Generator,
+    /// An array as long as any code needs, of which n rows are used: a code is `Copy`, as no list with a length is.
     rows: [u64; 42],
     ghost sized: { length rows ≡ 42 },
     ghost rowed: { (i : ℕ) → i < generator.n → slice_index rows i ≡ syndrome (numbers generator) (2 ^ i) },

@@ -58,7 +58,7 @@ impl Search<'_> {
         if self.syndrome.count_ones() <= self.code.generator.t {
             return Some(self.syndrome);
         }
-        // Not `or_else`: a closure that captures a `Search` is not proved to return what its call returns.
+        // Not `or_else`: of a closure that calls a method of `Search`, no proof knows what it returned.
         if let Some(pattern) = self.one_message_flip() {
             return Some(pattern);
         }

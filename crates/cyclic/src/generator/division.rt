@@ -64,6 +64,7 @@ impl Generator {
         ensures value { result ≡ syndrome (numbers self.now) word }
         ensures below { result < 2 ^ parity_bits (numbers self.now) }
     {
+        // The bits of a number are no collection to go over, so their places are.
         let mut remainder = 0;
         for i in (0..self.n).rev() {
             remainder = self.times_x(remainder) ^ (word >> i & 1);
