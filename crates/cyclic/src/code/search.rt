@@ -1,5 +1,5 @@
 //! The search for a pattern of at most t flips with a given syndrome.
-ghost use Rattle.std.specs.Prelude.{◌≡◌, ◌+◌, ◌-◌, ◌^◌, ◌<◌, ◌≤◌, MatchBool, count_ones};
+ghost use Rattle.std.specs.Prelude.{◌^◌, ◌<◌};
 ghost use Rattle.cyclic.specs.Generator.{numbers, parity_bits};
 
 use super::Cyclic;
@@ -70,10 +70,10 @@ impl Search<'_> {
         ensures { MatchOption result (NoneWithMany self.now) (Sought self.now) }
     {
         let code = self.code;
-        let word = self.syndrome << code.generator.parity_bits();
+        let shifted = self.syndrome << code.generator.parity_bits();
         let rotated = Search {
             code,
-            syndrome: code.generator.remainder(word),
+            syndrome: code.generator.remainder(shifted),
         };
         rotated
             .few_message_flips()
