@@ -1,5 +1,5 @@
 -- The search on the rotated syndrome, and what a pattern says of a word.
-use Rattle.std.proofs.Common.{◌≡◌, ℕ, ◌+◌, ◌-◌, ◌*◌, ◌/◌, ◌%◌, ◌^◌, ◌<◌, ◌≤◌, ◌⊎◌, sym, refl, ap, ◌∙◌, subst, inl, inr, ⊎_elim, lt_of_lt_of_le, mod-lt, mul_assoc, add_comm, arith, pow_pos, pow_mono, pow-add, shl_exact, shr_lt}
+use Rattle.std.proofs.Common.{◌≡◌, ℕ, ◌+◌, ◌-◌, ◌*◌, ◌/◌, ◌%◌, ◌^◌, ◌<◌, ◌≤◌, sym, refl, ap, ◌∙◌, subst, ⊎_elim, lt_of_lt_of_le, mod-lt, mul_assoc, add_comm, arith, pow_pos, pow_mono, pow-add, shl_exact, shr_lt}
 use lib.Bits.{bit_xor, bit_and, bit_or, and_mask, or_shifted, xor_lt, xor_self, xor_zero_r}
 use lib.Count.{ones}
 use Rattle.std.proofs.lemmas.Nat.{one_shl}
@@ -47,23 +47,30 @@ module _ (c : Numbers) (f : Holds c) where
         light = subst (λ (x : ℕ). x ≤ c.t) (sym (rotate_ones c.n r c.k other e p.below)) p.light;
       }
 
+  -- a pattern has at most two flips in message bits, or more
+  pub either_way : {s : ℕ} → ((e : ℕ) → Pattern c c.t s e → ones (e / 2 ^ parity_bits c) ≤ 2 → ⊥)
+      → ((e : ℕ) → Pattern c c.t s e → 2 < ones (e / 2 ^ parity_bits c) → ⊥)
+      → (e : ℕ) → Pattern c c.t s e → ⊥
+  either_way few many e p = ⊎_elim (many e p) (few e p) (cases_lt 2 (ones (e / 2 ^ parity_bits c)))
+
   -- Of at most four flips at most two are in message bits, or they are once the word is rotated.
+  none_many : (s : ℕ) → s < 2 ^ parity_bits c
+      → ((e : ℕ) → Pattern c c.t (syndrome c (s * 2 ^ parity_bits c)) e → ones (e / 2 ^ parity_bits c) ≤ 2 → ⊥)
+      → (e : ℕ) → Pattern c c.t s e → 2 < ones (e / 2 ^ parity_bits c) → ⊥
+  none_many s h rotated e p many =
+      rotated (rotate (parity_bits c) c.k e) (onward s e h p)
+      (omega (
+        arith,
+        p.light,
+        ones_parts e (parity_bits c),
+        rotated_message (parity_bits c) c.generator c.n c.k c.t f.parts f.half f.cyclic f.heavy e p.below,
+      ))
+
   pub none_either_way : (s : ℕ) → s < 2 ^ parity_bits c
       → ((e : ℕ) → Pattern c c.t s e → ones (e / 2 ^ parity_bits c) ≤ 2 → ⊥)
       → ((e : ℕ) → Pattern c c.t (syndrome c (s * 2 ^ parity_bits c)) e → ones (e / 2 ^ parity_bits c) ≤ 2 → ⊥)
       → (e : ℕ) → Pattern c c.t s e → ⊥
-  none_either_way s h here rotated e p = by_message (cases_lt 2 (ones (e / 2 ^ parity_bits c)))
-    where
-      by_message : (2 < ones (e / 2 ^ parity_bits c)) ⊎ (ones (e / 2 ^ parity_bits c) ≤ 2) → ⊥
-      by_message (inr few) = here e p few
-      by_message (inl many) =
-          rotated (rotate (parity_bits c) c.k e) (onward s e h p)
-          (omega (
-            arith,
-            p.light,
-            ones_parts e (parity_bits c),
-            rotated_message (parity_bits c) c.generator c.n c.k c.t f.parts f.half f.cyclic f.heavy e p.below,
-          ))
+  none_either_way s h here rotated e p = either_way here (none_many s h rotated) e p
 
   -- the shifts and the mask of a rotation, within 64 bits
   pub rotates : (w : ℕ) → w < 2 ^ c.n
@@ -89,11 +96,10 @@ module _ (c : Numbers) (f : Holds c) where
   back_from s e x h is p = back s e h (subst (λ (y : ℕ). Pattern c c.t y e) (rotated_is s x h is) p)
 
   pub none_from : (s x : ℕ) → s < 2 ^ parity_bits c → x ≡ syndrome c (s * 2 ^ parity_bits c % 2 ^ 64)
-      → ((e : ℕ) → Pattern c c.t s e → ones (e / 2 ^ parity_bits c) ≤ 2 → ⊥)
       → ((e : ℕ) → Pattern c c.t x e → ones (e / 2 ^ parity_bits c) ≤ 2 → ⊥)
-      → (e : ℕ) → Pattern c c.t s e → ⊥
-  none_from s x h is here rotated =
-      none_either_way s h here (subst (λ (y : ℕ). (e : ℕ) → Pattern c c.t y e → ones (e / 2 ^ parity_bits c) ≤ 2 → ⊥) (rotated_is s x h is) rotated)
+      → (e : ℕ) → Pattern c c.t s e → 2 < ones (e / 2 ^ parity_bits c) → ⊥
+  none_from s x h is rotated =
+      none_many s h (subst (λ (y : ℕ). (e : ℕ) → Pattern c c.t y e → ones (e / 2 ^ parity_bits c) ≤ 2 → ⊥) (rotated_is s x h is) rotated)
 
   -- ---- words
 

@@ -1,12 +1,11 @@
 -- What the search has passed over, and that nothing else is left.
-use Rattle.std.proofs.Common.{◌≡◌, ℕ, zero, suc, ◌+◌, ◌*◌, ◌/◌, ◌%◌, ◌^◌, ◌<◌, ◌≤◌, ◌⊎◌, List, get_or, Some, None, Option, sym, refl, ap, ◌∙◌, subst, ap₂, inl, inr, le_trans, le_refl, lt_of_lt_of_le, eq-zero-or-pos, zero-mul, arith, pow_mono, pow-add, shr_lt, MatchOption}
+use Rattle.std.proofs.Common.{◌≡◌, ℕ, zero, suc, ◌+◌, ◌-◌, ◌*◌, ◌/◌, ◌%◌, ◌^◌, ◌<◌, ◌≤◌, ◌⊎◌, List, get_or, Some, None, Option, sym, refl, ap, ◌∙◌, subst, ap₂, inl, inr, le_trans, le_refl, lt_of_lt_of_le, eq-zero-or-pos, zero-mul, arith, pow_mono, pow-add, shr_lt, MatchOption, IsSomeAnd, length, take, drop}
+use Rattle.std.proofs.lemmas.List.{length-take, get_or-take, get_or-drop}
 use lib.Pow.{pow-lt}
 use lib.Bits.{bit_xor, xor_lt, xor_assoc, xor_self, xor_comm, xor_zero_r}
-use lib.Count.{ones, ones-le}
-use Rattle.std.proofs.lemmas.Nat.{one_shl}
-use Rattle.cyclic.specs.declared.code.Cyclic.{Cyclic}
-use Rattle.cyclic.specs.Generator.{Numbers, numbers, parity_bits, syndrome}
-use Rattle.cyclic.specs.Search.{Pattern, Table, row_of, Singles, Pairs}
+use lib.Count.{ones}
+use Rattle.cyclic.specs.Generator.{Numbers, parity_bits, syndrome}
+use Rattle.cyclic.specs.Search.{Pattern, MessageTable, row_of, Singles, Pairs}
 use Rattle.cyclic.specs.Linear.{remainder_zero, remainder_small, remainder_xor, xor_shl, xor_cancel}
 use Rattle.codes.proofs.Distance.{ones_xor_le}
 use Rattle.cyclic.specs.Weight.{ones_pow, ones_none, one_bit, two_bits}
@@ -92,47 +91,67 @@ module _ (c : Numbers) (f : Holds c) where
           omega (arith, ap ones is, pairs (b.0 + r) (omega arith) (omega arith) (b.1 + r) (omega arith) (omega arith))
       by_count (suc (suc (suc w))) v h = absurd (omega arith)
 
-  -- what is left where neither the parity bits alone nor one or two message bits will do
-  pub none_few : (s : ℕ) (r : Option ℕ) → c.t < ones s → Singles c s c.n → MatchOption r (Pairs c s c.n) (Pattern c c.t s)
-      → MatchOption r ((e : ℕ) → Pattern c c.t s e → ones (e / 2 ^ parity_bits c) ≤ 2 → ⊥) (Pattern c c.t s)
-  none_few s None heavy singles pairs = few_none s heavy (passed_heavy s singles pairs)
-  none_few s (Some e) heavy singles found = found
+-- ---- answers of a search
 
--- the rows of a code are the syndromes of its single flips
-pub rows_of : (c : Cyclic) → Table (numbers c.generator) c.rows
-rows_of c = record { size = omega (arith, c.sized, c.generator.short); at = c.rowed }
+-- where nothing is found, more may be known of that
+pub none_weaker : {A B : Type 0} (P : ℕ → Type 0) (r : Option ℕ) → (A → B) → MatchOption r A P → MatchOption r B P
+none_weaker P None none a = none a
+none_weaker P (Some e) none p = p
 
--- ---- the same over the table's entries and words of 64 bits
+-- what is found is made into something else
+pub mapped : {X A B : Type 0} (P : ℕ → Type 0) (Q : X → Type 0) (R : ℕ → X → Type 0) (o : Option ℕ) (r : Option X)
+    → (A → B) → ((e : ℕ) (x : X) → P e → R e x → Q x) → MatchOption o A P → MatchOption o (r ≡ None) (λ e. IsSomeAnd r (R e)) → MatchOption r B Q
+mapped {X} {A} {B} P Q R None r none some a is = subst (λ (q : Option X). MatchOption q B Q) (sym is) (none a)
+mapped P Q R (Some e) (Some x) none some p made = some e x p made
+mapped P Q R (Some e) None none some p made = absurd made
+
+-- ---- the same over the rows of the message bits
 
 abbrev pub entry : List ℕ → ℕ → ℕ
 entry xs i = get_or xs i 0
 
-module _ (c : Numbers) (f : Holds c) (xs : List ℕ) (table : Table c xs) where
-  pub difference_lt : (s i : ℕ) → s < 2 ^ parity_bits c → i < c.n → bit_xor s (entry xs i) < 2 ^ parity_bits c
+-- a row of the slice from m on
+pub entry_after : (xs : List ℕ) (m n j : ℕ) → j < length (take n (drop m xs)) → entry (take n (drop m xs)) j ≡ entry xs (m + j)
+entry_after xs m n j h =
+    let below : j < n = omega (arith, length-take n (drop m xs)) in
+    get_or-take n (drop m xs) j 0 below ∙ get_or-drop m xs j 0
+
+module _ (c : Numbers) (f : Holds c) (xs : List ℕ) (table : MessageTable c xs) where
+  pub difference_lt : (s i : ℕ) → s < 2 ^ parity_bits c → i < c.k → bit_xor s (entry xs i) < 2 ^ parity_bits c
   difference_lt s i hs h =
-      subst (λ (x : ℕ). bit_xor s x < 2 ^ parity_bits c) (sym (table.at i h)) (xor_lt (parity_bits c) s (row_of c i) hs (syndrome_lt c f (2 ^ i)))
+      subst (λ (x : ℕ). bit_xor s x < 2 ^ parity_bits c) (sym (table.at i h))
+      (xor_lt (parity_bits c) s (row_of c (parity_bits c + i)) hs (syndrome_lt c f (2 ^ (parity_bits c + i))))
 
-  pub difference_ones : (s i : ℕ) → s < 2 ^ parity_bits c → i < c.n → ones (bit_xor s (entry xs i)) ≤ 42
-  difference_ones s i hs h = omega (arith, ones-le (parity_bits c) (bit_xor s (entry xs i)) (difference_lt s i hs h))
+  pub flip_entry : (u s e i x : ℕ) → i < c.k → x ≡ 2 ^ (parity_bits c + i) → Pattern c u (bit_xor s (entry xs i)) e
+      → Pattern c (u + 1) s (bit_xor e x)
+  flip_entry u s e i x h is p =
+      subst (λ (y : ℕ). Pattern c (u + 1) s (bit_xor e y)) (sym is)
+      (flip c f u s e (parity_bits c + i) (omega (arith, f.parts)) (subst (λ (y : ℕ). Pattern c u (bit_xor s y) e) (table.at i h) p))
 
-  pub flip_entry : (u s e i : ℕ) → i < c.n → Pattern c u (bit_xor s (entry xs i)) e → Pattern c (u + 1) s (bit_xor e (1 * 2 ^ i % 2 ^ 64))
-  flip_entry u s e i h p =
-      subst (λ (x : ℕ). Pattern c (u + 1) s (bit_xor e x)) (sym (one_shl i 64 (omega arith)))
-      (flip c f u s e i h (subst (λ (x : ℕ). Pattern c u (bit_xor s x) e) (table.at i h) p))
-
-  pub one_flip : (s i : ℕ) → s < 2 ^ parity_bits c → i < c.n → ones (bit_xor s (entry xs i)) + 1 ≤ c.t
-      → Pattern c c.t s (bit_xor (bit_xor s (entry xs i)) (1 * 2 ^ i % 2 ^ 64))
-  one_flip s i hs h le =
+  pub one_flip : (s i x : ℕ) → s < 2 ^ parity_bits c → i < c.k → x ≡ 2 ^ (parity_bits c + i) → ones (bit_xor s (entry xs i)) < c.t
+      → Pattern c c.t s (bit_xor (bit_xor s (entry xs i)) x)
+  one_flip s i x hs h is lt =
       let d = bit_xor s (entry xs i) in
-      within c f (ones d + 1) s (bit_xor d (1 * 2 ^ i % 2 ^ 64)) (flip_entry (ones d) s d i h (parity_only c f d (difference_lt s i hs h))) le
+      within c f (ones d + 1) s (bit_xor d x) (flip_entry (ones d) s d i x h is (parity_only c f d (difference_lt s i hs h))) (omega arith)
 
-  pub two_flips : (s i j : ℕ) → s < 2 ^ parity_bits c → i < c.n → j < c.n → ones (bit_xor (bit_xor s (entry xs i)) (entry xs j)) + 2 ≤ c.t
-      → Pattern c c.t s (bit_xor (bit_xor (bit_xor (bit_xor s (entry xs i)) (entry xs j)) (1 * 2 ^ j % 2 ^ 64)) (1 * 2 ^ i % 2 ^ 64))
-  two_flips s i j hs hi hj le =
+  pub two_flips : (s i j x y z : ℕ) → s < 2 ^ parity_bits c → i < c.k → j < c.k → x ≡ 2 ^ (parity_bits c + i) → y ≡ 2 ^ (parity_bits c + j) → z ≡ entry xs j
+      → ones (bit_xor (bit_xor s (entry xs i)) z) + 2 ≤ c.t
+      → Pattern c c.t s (bit_xor (bit_xor (bit_xor (bit_xor s (entry xs i)) z) y) x)
+  two_flips s i j x y z hs hi hj isx isy isz le =
       let one = bit_xor s (entry xs i) in
-      let two = bit_xor one (entry xs j) in
-      let e = bit_xor two (1 * 2 ^ j % 2 ^ 64) in
-      within c f (ones two + 1 + 1) s (bit_xor e (1 * 2 ^ i % 2 ^ 64))
-      (flip_entry (ones two + 1) s e i hi
-      (flip_entry (ones two) one two j hj (parity_only c f two (difference_lt one j (difference_lt s i hs hi) hj))))
+      let two = bit_xor one z in
+      let e = bit_xor two y in
+      let small : two < 2 ^ parity_bits c = subst (λ (w : ℕ). bit_xor one w < 2 ^ parity_bits c) (sym isz) (difference_lt one j (difference_lt s i hs hi) hj) in
+      let parity : Pattern c (ones two) (bit_xor one (entry xs j)) two =
+      subst (λ (w : ℕ). Pattern c (ones two) (bit_xor one w) two) isz (parity_only c f two small) in
+      within c f (ones two + 1 + 1) s (bit_xor e x)
+      (flip_entry (ones two + 1) s e i x hi isx (flip_entry (ones two) one two j y hj isy parity))
       (omega arith)
+
+  -- where each row leaves too many, no single message bit will do
+  pub all_heavy : (s : ℕ) → ((i : ℕ) → i < c.k → c.t ≤ ones (bit_xor s (entry xs i))) → Singles c s c.n
+  all_heavy s heavy a from to =
+      let i = a - parity_bits c in
+      let within : i < c.k = omega (arith, f.parts) in
+      let is : parity_bits c + i ≡ a = omega arith in
+      subst (λ (x : ℕ). c.t < ones (bit_xor s (row_of c x)) + 1) is (omega (arith, heavy i within, ap (λ (x : ℕ). ones (bit_xor s x)) (table.at i within)))

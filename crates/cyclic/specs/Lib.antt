@@ -3,6 +3,7 @@ pub mod Sound
 pub mod Generator
 pub mod Search
 pub mod Name
+pub mod Sought
 pub mod Code
 pub mod Codewords
 pub mod Linear

@@ -13,6 +13,11 @@ pub record Table (c : Numbers) (xs : List ℕ) : Type 0 where
   pub size : c.n ≤ length xs
   pub at : (i : ℕ) → i < c.n → slice_index xs i ≡ syndrome c (2 ^ i)
 
+-- the syndrome of each power of x that a message bit stands for
+pub record MessageTable (c : Numbers) (xs : List ℕ) : Type 0 where
+  pub size : length xs ≡ c.k
+  pub at : (i : ℕ) → i < c.k → slice_index xs i ≡ syndrome c (2 ^ (parity_bits c + i))
+
 -- the syndrome of one flip, at bit i
 abbrev pub row_of : Numbers → ℕ → ℕ
 row_of c i = syndrome c (2 ^ i)

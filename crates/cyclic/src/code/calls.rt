@@ -8,6 +8,7 @@ ghost use Rattle.cyclic.specs.Codewords;
 ghost use Rattle.cyclic.specs.Facts.{facts};
 
 use super::Cyclic;
+use super::search::Search;
 use codes::fault::{Cause, Fault};
 use codes::interface::{Code, Correction, Shape, fits_in};
 
@@ -17,49 +18,27 @@ impl Cyclic {
         requires { message < 2 ^ self.now.generator.k }
         ensures { Carries (meaning_of self.now) message result }
     {
-        let code = self.generator;
-        let shifted = message << (code.n - code.k);
-        shifted ^ code.remainder(shifted)
+        let shifted = message << self.generator.parity_bits();
+        shifted ^ self.generator.remainder(shifted)
     }
 
     /// What correcting a word answers, once the pattern is found.
     fn correction(&self, word: u64, pattern: u64) -> Correction
         ensures { result ≡ correction (numbers self.now.generator) word pattern }
     {
-        let code = self.generator;
         let codeword = word ^ pattern;
         Correction {
             codeword,
-            message: codeword >> (code.n - code.k),
+            message: codeword >> self.generator.parity_bits(),
             pattern,
         }
-    }
-
-    /// The correction of a word, or `None` where no codeword is within reach.
-    fn nearest(&self, word: u64) -> Option<Correction>
-        requires { word < 2 ^ self.now.generator.n }
-        ensures { MatchOption result (Beyond (meaning_of self.now) word) (Corrects (meaning_of self.now) word) }
-    {
-        let syndrome = self.generator.remainder(word);
-        match self.find_pattern(syndrome) {
-            Some(pattern) => Some(self.correction(word, pattern)),
-            None => None,
-        }
-    }
-
-    /// Whether a word of n bits is a codeword.
-    fn has_no_remainder(&self, word: u64) -> bool
-        requires { word < 2 ^ self.now.generator.n }
-        ensures { result ≡ (meaning_of self.now).codeword word }
-    {
-        self.generator.remainder(word) == 0
     }
 
     /// Whether a word is a codeword, by its remainder.
     pub fn is_codeword(&self, word: u64) -> bool
         ensures { result ≡ (meaning_of self.now).codeword word }
     {
-        fits_in(word, self.generator.n) && self.has_no_remainder(word)
+        fits_in(word, self.generator.n) && self.generator.remainder(word) == 0
     }
 }
 
@@ -87,9 +66,13 @@ impl Code for Cyclic {
         if !fits_in(word, self.generator.n) {
             return Err(Fault::new(Cause::WordTooLong));
         }
-        match self.nearest(word) {
-            Some(found) => Ok(found),
-            None => Err(Fault::new(Cause::BeyondReach)),
-        }
+        let search = Search {
+            code: self,
+            syndrome: self.generator.remainder(word),
+        };
+        search
+            .pattern()
+            .map(|pattern| self.correction(word, pattern))
+            .ok_or(Fault::new(Cause::BeyondReach))
     }
 }

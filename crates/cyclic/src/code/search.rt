@@ -1,66 +1,49 @@
 //! The search for a pattern of at most t flips with a given syndrome.
-ghost use Rattle.std.specs.Prelude.{◌≡◌, ℕ, ◌+◌, ◌-◌, ◌/◌, ◌^◌, ◌<◌, ◌≤◌, MatchBool, MatchOption, count_ones};
-ghost use Rattle.cyclic.specs.Polynomial.{rotate};
+ghost use Rattle.std.specs.Prelude.{◌^◌, ◌<◌};
 ghost use Rattle.cyclic.specs.Generator.{numbers, parity_bits};
-ghost use Rattle.cyclic.specs.Search.{Pattern, Singles, Pairs};
 
 use super::Cyclic;
 
-/// A word without its lowest one.
-fn clear_lowest(word: u64) -> u64
-    ensures { count_ones result ≡ count_ones word - 1 }
-{
-    word & word.wrapping_sub(1)
+/// A code, and the syndrome that a pattern is searched for.
+#[derive(Clone, Copy)]
+pub(super) struct Search<'a> {
+    pub(super) code: &'a Cyclic,
+    pub(super) syndrome: u64,
+    ghost below: { syndrome < 2 ^ parity_bits (numbers code.now.generator) },
 }
 
-/// Whether a word has at most so many ones that its flips and some more are within reach.
-/// As many ones as may be there are cleared, and none may be left: the target cannot count ones in one step.
-fn is_light(word: u64, more: u32, reach: u32) -> bool
-    ensures { MatchBool result (count_ones word + more ≤ reach) (reach < count_ones word + more) }
-{
-    if reach < more {
-        return false;
-    }
-    let mut rest = word;
-    for _done in more..reach {
-        rest = clear_lowest(rest);
-    }
-    rest == 0
-}
+impl Search<'_> {
+    ghost use Rattle.std.specs.Prelude.{MatchOption};
+    ghost use Rattle.cyclic.specs.Sought.{Sought, NoSingle, NoPair, NoneWithFew, NoneWithMany, NoneAtAll};
 
-impl Cyclic {
     /// A pattern with one flip among the message bits.
-    fn one_message_flip(&self, syndrome: u64) -> Option<u64>
-        requires { syndrome < 2 ^ parity_bits (numbers self.now.generator) }
-        ensures { MatchOption result
-            (Singles (numbers self.now.generator) syndrome self.now.generator.n)
-            (λ e. Pattern (numbers self.now.generator) self.now.generator.t syndrome e) }
+    fn one_message_flip(&self) -> Option<u64>
+        ensures { MatchOption result (NoSingle self.now) (Sought self.now) }
     {
-        let code = self.generator;
-        for i in code.n - code.k..code.n {
-            let one = syndrome ^ self.rows[i as usize];
-            if one.count_ones() + 1 <= code.t {
-                return Some(one ^ 1 << i);
-            }
-        }
-        None
+        let code = self.code;
+        let syndrome = self.syndrome;
+        let reach = code.generator.t;
+        let rows = code.message_rows();
+        let i = rows
+            .iter()
+            .position(|row| (syndrome ^ row).count_ones() < reach)?;
+        Some(syndrome ^ rows[i] ^ code.message_flip(i))
     }
 
     /// A pattern with two flips among the message bits. The first pair that is light enough ends the search.
-    fn two_message_flips(&self, syndrome: u64) -> Option<u64>
-        requires { syndrome < 2 ^ parity_bits (numbers self.now.generator) }
-        ensures { MatchOption result
-            (Pairs (numbers self.now.generator) syndrome self.now.generator.n)
-            (λ e. Pattern (numbers self.now.generator) self.now.generator.t syndrome e) }
+    fn two_message_flips(&self) -> Option<u64>
+        ensures { MatchOption result (NoPair self.now) (Sought self.now) }
     {
-        let code = self.generator;
+        let code = self.code;
+        let most = code.generator.t.checked_sub(2)?;
+        let rows = code.message_rows();
         let mut found = None;
-        'pairs: for i in code.n - code.k..code.n {
-            let one = syndrome ^ self.rows[i as usize];
-            for j in i + 1..code.n {
-                let two = one ^ self.rows[j as usize];
-                if is_light(two, 2, code.t) {
-                    found = Some(two ^ 1 << j ^ 1 << i);
+        'pairs: for (i, first) in rows.iter().enumerate() {
+            let one = self.syndrome ^ first;
+            for (j, second) in rows[i + 1..].iter().enumerate() {
+                let two = one ^ second;
+                if two.count_ones() <= most {
+                    found = Some(two ^ code.message_flip(i + 1 + j) ^ code.message_flip(i));
                     break 'pairs;
                 }
             }
@@ -69,48 +52,42 @@ impl Cyclic {
     }
 
     /// A pattern with at most two flips among the message bits.
-    fn few_message_flips(&self, syndrome: u64) -> Option<u64>
-        requires { syndrome < 2 ^ parity_bits (numbers self.now.generator) }
-        ensures { MatchOption result
-            ((e : ℕ) → Pattern (numbers self.now.generator) self.now.generator.t syndrome e
-            → count_ones (e / 2 ^ parity_bits (numbers self.now.generator)) ≤ 2 → ⊥)
-            (λ e. Pattern (numbers self.now.generator) self.now.generator.t syndrome e) }
+    fn few_message_flips(&self) -> Option<u64>
+        ensures { MatchOption result (NoneWithFew self.now) (Sought self.now) }
     {
-        if syndrome.count_ones() <= self.generator.t {
-            return Some(syndrome);
+        if self.syndrome.count_ones() <= self.code.generator.t {
+            return Some(self.syndrome);
         }
-        if let Some(pattern) = self.one_message_flip(syndrome) {
+        // Not `or_else`: of a closure that calls a method of `Search`, no proof knows what it returned.
+        if let Some(pattern) = self.one_message_flip() {
             return Some(pattern);
         }
-        self.two_message_flips(syndrome)
+        self.two_message_flips()
     }
 
-    /// A word of n bits, rotated k places upwards.
-    fn rotate_back(&self, word: u64) -> u64
-        requires { word < 2 ^ self.now.generator.n }
-        ensures { result ≡ rotate self.now.generator.k (parity_bits (numbers self.now.generator)) word }
+    /// The same, searched for in the word rotated: flips that are mostly in message bits are mostly in parity bits there.
+    fn many_message_flips(&self) -> Option<u64>
+        ensures { MatchOption result (NoneWithMany self.now) (Sought self.now) }
     {
-        let code = self.generator;
-        let parity = code.n - code.k;
-        (word & ((1 << parity) - 1)) << code.k | word >> parity
+        let code = self.code;
+        let shifted = self.syndrome << code.generator.parity_bits();
+        let rotated = Search {
+            code,
+            syndrome: code.generator.remainder(shifted),
+        };
+        rotated
+            .few_message_flips()
+            .map(|pattern| code.rotate_back(pattern))
     }
 
     /// A pattern of at most t flips with this syndrome, or `None` where there is none.
-    /// Flips that are mostly in message bits are mostly in parity bits once the word is rotated.
-    pub(crate) fn find_pattern(&self, syndrome: u64) -> Option<u64>
-        requires { syndrome < 2 ^ parity_bits (numbers self.now.generator) }
-        ensures { MatchOption result
-            ((e : ℕ) → Pattern (numbers self.now.generator) self.now.generator.t syndrome e → ⊥)
-            (λ e. Pattern (numbers self.now.generator) self.now.generator.t syndrome e) }
+    pub(super) fn pattern(&self) -> Option<u64>
+        ensures { MatchOption result (NoneAtAll self.now) (Sought self.now) }
     {
-        let code = self.generator;
-        if let Some(pattern) = self.few_message_flips(syndrome) {
+        // Not `or_else`, as above.
+        if let Some(pattern) = self.few_message_flips() {
             return Some(pattern);
         }
-        let rotated = code.remainder(syndrome << (code.n - code.k));
-        match self.few_message_flips(rotated) {
-            Some(pattern) => Some(self.rotate_back(pattern)),
-            None => None,
-        }
+        self.many_message_flips()
     }
 }

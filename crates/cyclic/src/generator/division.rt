@@ -7,6 +7,13 @@ ghost use Rattle.cyclic.specs.Search.{Table};
 use super::Generator;
 
 impl Generator {
+    /// How many bits of a codeword are parity.
+    pub(crate) fn parity_bits(&self) -> u32
+        ensures { result ≡ parity_bits (numbers self.now) }
+    {
+        self.n - self.k
+    }
+
     /// x times a remainder, reduced by the generator.
     fn times_x(&self, remainder: u64) -> u64
         requires { remainder < 2 ^ parity_bits (numbers self.now) }
@@ -14,7 +21,7 @@ impl Generator {
     {
         // The carry is 0 or 1, and as hard to foretell as a coin: a product costs less than a branch.
         let shifted = remainder << 1;
-        let carry = shifted >> (self.n - self.k);
+        let carry = shifted >> self.parity_bits();
         shifted ^ self.polynomial * carry
     }
 
@@ -24,6 +31,7 @@ impl Generator {
         ensures value { result ≡ syndrome (numbers self.now) word }
         ensures below { result < 2 ^ parity_bits (numbers self.now) }
     {
+        // The bits of a number are no collection to go over, so their places are.
         let mut remainder = 0;
         for i in (0..self.n).rev() {
             remainder = self.times_x(remainder) ^ (word >> i & 1);
@@ -38,8 +46,8 @@ impl Generator {
     {
         let mut rows = [0; 42];
         let mut row = 1;
-        for i in 0..self.n {
-            rows[i as usize] = row;
+        for entry in &mut rows[..self.n as usize] {
+            *entry = row;
             row = self.times_x(row);
         }
         rows
