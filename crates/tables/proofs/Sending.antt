@@ -1,6 +1,7 @@
 -- The words of a table, one after the other.
-use Rattle.std.proofs.Common.{◌≡◌, ℕ, zero, suc, ◌+◌, ◌*◌, ◌/◌, ◌%◌, ◌^◌, ◌<◌, ◌≤◌, ◌≢◌, List, [], ◌∷◌, length, get_or, set, sym, refl, ap, ◌∙◌, subst, inl, inr, ⊎_elim, add-mul, one-mul, add-one, arith, shr-shr}
-use Rattle.std.proofs.lemmas.List.{length-set, get_or-set_same, get_or-set_other, ext_get_or}
+use Rattle.std.proofs.Common.{◌≡◌, ℕ, zero, suc, ◌+◌, ◌-◌, ◌*◌, ◌/◌, ◌%◌, ◌^◌, ◌<◌, ◌≤◌, ◌≢◌, List, [], ◌∷◌, ◌++◌, length, take, drop, get_or, set, sym, refl, ap, ◌∙◌, subst, inl, inr, ⊎_elim, add-mul, one-mul, add-one, arith, shr-shr, length-append, length-drop, length-take}
+use Rattle.std.proofs.lemmas.List.{length-set, get_or-set_same, get_or-set_other, get_or-append_right, get_or-drop, ext_get_or}
+use Rattle.std.proofs.Math.ListN.{get_or-append}
 use Rattle.std.proofs.lemmas.Bool.{cases_eq, cases_lt}
 use Rattle.codes.specs.declared.fault.Cause.TheVariants.{NoMessageBits, TableTooLong, TooShort}
 use Rattle.codes.specs.Interface.{in_service}
@@ -8,8 +9,7 @@ use Rattle.codes.specs.Meaning.{Meaning, Lawful, One, Carries}
 use Rattle.codes.proofs.Answering.{service_decided}
 use Rattle.codes.proofs.Faults.{Decided}
 use Rattle.codes.proofs.Reach.{same_message}
-use Rattle.tables.specs.declared.feed.Feed.{Feed}
-use Rattle.tables.specs.Feed.{joined, left}
+use Rattle.tables.specs.Feed.{Supply, supply, joined}
 use Rattle.tables.specs.Sender.{has_bits, words_for, table_fits, list_fits, Words, OneSending}
 use Rattle.tables.specs.Stream.{stream, message_at}
 use Rattle.tables.proofs.Joined.{message_is, message_below}
@@ -47,20 +47,37 @@ pub written_next : {m : Meaning} {table before after : List ℕ} {i : ℕ} → W
 written_next {m} {table} {before} {after} {i} so k a v l width message carries =
     written_more so v l (subst (λ (x : ℕ). Carries m x v) (message ∙ ap (λ (x : ℕ). message_at x table i) width) carries)
 
--- ---- the messages drawn from a feed
+-- the words of a list whose first ones were written
+pub words_written : {m : Meaning} {table before items : List ℕ} {count : ℕ} → count ≡ words_for m table → count ≤ length before → Written m table (take count before) items count → Words m table before (items ++ drop count before)
+words_written {m} {table} {before} {items} {count} is room so =
+    let size : length items ≡ count = so.count ∙ omega (arith, length-take count before) in
+    record {
+      count = length-append items (drop count before) ∙ omega (arith, length-drop count before);
+      each = λ i low.
+          let first : i < length items = omega arith in
+          subst (λ (x : ℕ). Carries m (message_at m.k table i) x) (sym (get_or-append items (drop count before) 0 i first)) (so.each i (omega arith));
+      rest = λ i past.
+          let same : count + (i - count) ≡ i = omega arith in
+          get_or-append_right items (drop count before) count i 0 size (omega arith) ∙ get_or-drop count before (i - count) 0
+          ∙ ap (λ (x : ℕ). get_or before x 0) same;
+    }
+
+-- ---- the messages drawn from the stream
 
 -- once i messages are drawn, the rest of the stream is left
-abbrev pub Remaining : ℕ → List ℕ → ℕ → ℕ → Feed → Type 0
-Remaining k table i next f = left 8 (stream table) next f ≡ joined 8 (stream table) / 2 ^ (i * k)
+abbrev pub Remaining : ℕ → List ℕ → ℕ → Supply → Type 0
+Remaining k table i feed = feed ≡ supply (joined 8 (stream table) / 2 ^ (i * k)) 8
 
-module _ (k : ℕ) (table : List ℕ) (i next : ℕ) (f : Feed) (so : Remaining k table i next f) where
-  pub remaining_less : (next' : ℕ) (g : Feed) → left 8 (stream table) next' g ≡ left 8 (stream table) next f / 2 ^ k → Remaining k table (i + 1) next' g
-  remaining_less next' g e =
-      e ∙ ap (λ (x : ℕ). x / 2 ^ k) so ∙ shr-shr (joined 8 (stream table)) (i * k) k
-      ∙ ap (λ (x : ℕ). joined 8 (stream table) / 2 ^ x) (sym (add-mul i 1 k ∙ ap (λ (x : ℕ). i * k + x) (one-mul k)))
+module _ (k : ℕ) (table : List ℕ) (i : ℕ) (before : Supply) (so : Remaining k table i before) where
+  pub remaining_less : (after : Supply) → after ≡ supply (before.left / 2 ^ k) before.width → Remaining k table (i + 1) after
+  remaining_less after e =
+      let less : joined 8 (stream table) / 2 ^ (i * k) / 2 ^ k ≡ joined 8 (stream table) / 2 ^ ((i + 1) * k) =
+      shr-shr (joined 8 (stream table)) (i * k) k
+      ∙ ap (λ (x : ℕ). joined 8 (stream table) / 2 ^ x) (sym (add-mul i 1 k ∙ ap (λ (x : ℕ). i * k + x) (one-mul k))) in
+      e ∙ ap (λ (s : Supply). supply (s.left / 2 ^ k) s.width) so ∙ ap (λ (x : ℕ). supply x 8) less
 
-  pub next_message : (a : ℕ) → a ≡ left 8 (stream table) next f % 2 ^ k → a ≡ message_at k table i
-  next_message a e = e ∙ ap (λ (x : ℕ). x % 2 ^ k) so ∙ sym (message_is k table i)
+  pub next_message : (a : ℕ) → a ≡ before.left % 2 ^ k → a ≡ message_at k table i
+  next_message a e = e ∙ ap (λ (s : Supply). s.left % 2 ^ k) so ∙ sym (message_is k table i)
 
 -- ---- one answer and one list
 
