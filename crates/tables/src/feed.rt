@@ -7,27 +7,22 @@ use std::marker::Model;
 use std::slice::Iter;
 
 /// What comes in as a number: a byte, or a message.
-pub(crate) trait Symbol: Copy {
+pub(crate) trait Symbol: Copy + Into<u64> {
     ghost number: { Self → ℕ };
 
-    fn number(self) -> u64
-        ensures { result ≡ number self };
+    ghost exact: { (symbol : Self) (n : ℕ) → Self.converts symbol n → n ≡ number symbol };
 }
 
 impl Symbol for u8 {
     ghost number = { λ byte. byte };
 
-    fn number(self) -> u64 {
-        u64::from(self)
-    }
+    ghost exact = { λ byte n is. is };
 }
 
 impl Symbol for u64 {
     ghost number = { λ message. message };
 
-    fn number(self) -> u64 {
-        self
-    }
+    ghost exact = { λ message n is. is };
 }
 
 /// Symbols of `width` bits that are still to come, and below them the bits in hand. The first bit is the lowest.
@@ -63,7 +58,7 @@ fn next_number<S: Symbol>(symbols: &mut Iter<'_, S>) -> u64
     ensures number { result ≡ slice_index (map S.number (iter_rest symbols.old)) 0 }
     ensures rest { iter_rest symbols.new ≡ drop 1 (iter_rest symbols.old) }
 {
-    symbols.next().map_or(0, |symbol| symbol.number())
+    symbols.next().map_or(0, |symbol| (*symbol).into())
 }
 
 impl<'a, S: Symbol> Feed<'a, S> {
@@ -90,13 +85,11 @@ impl<'a, S: Symbol> Feed<'a, S> {
         ensures rest { self.new ≡ supply (self.old.left / 2 ^ width) self.old.width }
     {
         while self.bits < width {
-            let symbol = next_number(&mut self.symbols);
-            self.held += symbol * power_of_two(self.bits);
+            self.held += next_number(&mut self.symbols) << self.bits;
             self.bits += self.width;
         }
-        let drawn = power_of_two(width);
-        let number = self.held % drawn;
-        self.held /= drawn;
+        let number = self.held % power_of_two(width);
+        self.held >>= width;
         self.bits -= width;
         number
     }
