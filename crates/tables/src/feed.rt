@@ -10,6 +10,7 @@ use std::slice::Iter;
 pub(crate) trait Symbol: Copy + Into<u64> {
     ghost number: { Self → ℕ };
 
+    // The conversion gives that number, and no other.
     ghost exact: { (symbol : Self) (n : ℕ) → Self.converts symbol n → n ≡ number symbol };
 }
 

@@ -1,9 +1,9 @@
 //! Sends a table as codewords, one for each of its messages.
-ghost use Rattle.std.specs.Prelude.{◌≡◌, ◌+◌, ◌*◌, ◌^◌, ◌<◌, ◌≤◌, true, length, OnOk};
+ghost use Rattle.std.specs.Prelude.{◌≡◌, ℕ, ◌^◌, ◌<◌, true, length, OnOk, slice_index};
 ghost use Rattle.codes.specs.Meaning.{Carries};
 ghost use Rattle.tables.specs.Feed.{supply, joined};
-ghost use Rattle.tables.specs.Sender.{Words, Sent, OneSending};
-ghost use Rattle.tables.specs.Stream.{Bytes, stream, messages_for};
+ghost use Rattle.tables.specs.Sender.{Sent, OneSending};
+ghost use Rattle.tables.specs.Stream.{Bytes, stream, message_at};
 
 use crate::feed::Feed;
 use crate::stream::Width;
@@ -27,17 +27,15 @@ fn codeword<C: Code>(code: &C, message: u64) -> u64
     code.encode(message).unwrap()
 }
 
-/// Writes the codeword of each message.
+/// Writes the codewords of the first messages, as many as there are places.
 fn write_words<C: Code>(code: &C, table: &[u8], width: Width, words: &mut [u64])
     requires serving { (C.means code.now).serves ≡ true }
     requires width { width.bits ≡ (C.means code.now).k }
     requires short { length table.now < 65536 }
-    requires room { messages_for width.bits (length table.now) ≤ length words.old }
-    ensures { Words (C.means code.now) table.now words.old words.new }
+    ensures { (i : ℕ) → i < length words.new → Carries (C.means code.now) (message_at width.bits table.now i) (slice_index words.new i) }
 {
     let mut messages = stream(table);
-    let count = width.messages_for(table.len() as u16);
-    for word in words[..count].iter_mut() {
+    for word in words.iter_mut() {
         *word = codeword(code, messages.draw(width.bits));
     }
 }
@@ -62,6 +60,6 @@ pub fn send<C: Code>(code: &C, table: &[u8], words: &mut [u64]) -> Result<usize,
     if words.len() < count {
         return Err(Fault::new(Cause::TooShort));
     }
-    write_words(code, table, width, words);
+    write_words(code, table, width, &mut words[..count]);
     Ok(count)
 }

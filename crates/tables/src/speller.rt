@@ -30,6 +30,7 @@ impl<'a> Messages<'a> {
     fn fitting(list: &'a [u64], width: Width) -> Option<Messages<'a>>
         ensures { MatchOption result ((T : List ℕ) → TableOf width.bits list.now T → ⊥) (λ messages. (messages.list.now ≡ list.now) × (messages.width ≡ width)) }
     {
+        // `then_some` would make the value before it is known that each message fits.
         if list.iter().all(|message| fits_in(*message, width.bits)) {
             Some(Messages { list, width })
         } else {
