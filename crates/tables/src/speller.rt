@@ -61,6 +61,7 @@ impl<'a> Messages<'a> {
     }
 
     /// The size of the table that has these messages, or `None` where no table has them.
+    #[tactic(auto, using(crate::proofs::Spelling::sized_if_filled, crate::proofs::Spelling::no_table))]
     fn table_size(&self) -> Option<u16>
         ensures { MatchOption result ((T : List ℕ) → TableOf self.now.width.bits self.now.list.now T → ⊥) (Sized self.now.width.bits self.now.list.now) }
     {

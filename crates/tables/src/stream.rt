@@ -51,6 +51,7 @@ impl Width {
     }
 
     /// Whether 256 messages hold the stream of a table.
+    #[tactic(auto, using(crate::proofs::Counts::fits_by_size))]
     pub(crate) fn fits(self, size: usize) -> bool
         ensures { MatchBool result (messages_for self.bits size ≤ 256) (256 < messages_for self.bits size) }
     {
