@@ -1,12 +1,10 @@
 -- Tables and their messages, each from the other.
-use Rattle.std.proofs.Common.{◌≡◌, ℕ, zero, suc, ◌+◌, ◌-◌, ◌*◌, ◌/◌, ◌%◌, ◌^◌, ◌<◌, ◌≤◌, Bool, true, false, List, [], ◌∷◌, map, length, get_or, drop, MatchBool, Option, None, Some, MatchOption, Bor, slice_get, sym, refl, ap, ◌∙◌, subst, mod-eq_of_lt, mul-zero, arith, pow_pos, pow_mono, shr-shr}
+use Rattle.std.proofs.Common.{◌≡◌, ℕ, zero, suc, ◌+◌, ◌-◌, ◌*◌, ◌/◌, ◌%◌, ◌^◌, ◌<◌, ◌≤◌, Bool, true, false, List, [], ◌∷◌, map, length, get_or, drop, MatchBool, MatchOption, sym, refl, ap, ◌∙◌, subst, mod-eq_of_lt, mul-zero, arith, pow_pos, pow_mono, shr-shr}
 use native.Mathlib.Nat.{div-eq_of_lt, mod-mod}
 use Rattle.std.specs.Bool.{then_some}
 use Rattle.std.specs.List.{range_with_len}
-use Rattle.std.specs.Option.{option_copied}
 use Rattle.std.proofs.lemmas.Nat.{mod_below, le-div}
 use Rattle.std.proofs.lemmas.List.FromFn.{length-map-range_with_len, get_or-map-range_with_len, fill_by_all}
-use Rattle.std.proofs.lemmas.Option.{slice_get-get_or, get_or_from_slice_get}
 use Rattle.std.proofs.lemmas.List.Elements.{All-from_get_or}
 use Rattle.std.proofs.lemmas.List.{drop_more, drop_all}
 use Rattle.codes.proofs.Answering.{short_by_shift}
@@ -136,7 +134,7 @@ module _ {k : ℕ} (some : 0 < k) (messages : List ℕ) where
   too_wide wide T so = wide (table_spellable some so).below
 
   -- the filling is in the last message
-  last_filling : (size : ℕ) → Below k messages → length messages ≡ messages_for k size → joined k messages / 2 ^ (8 * (size + 2)) ≡ get_or messages (length messages - 1) 0 / 2 ^ ((8 * (size + 2) - 1) % k + 1)
+  pub last_filling : (size : ℕ) → Below k messages → length messages ≡ messages_for k size → joined k messages / 2 ^ (8 * (size + 2)) ≡ get_or messages (length messages - 1) 0 / 2 ^ ((8 * (size + 2) - 1) % k + 1)
   last_filling size below count =
       let v = joined k messages in
       let i = length messages - 1 in
@@ -150,20 +148,9 @@ module _ {k : ℕ} (some : 0 < k) (messages : List ℕ) where
       ap (λ (x : ℕ). v / 2 ^ x) whole ∙ sym (shr-shr v (i * k) used) ∙ ap (λ (x : ℕ). x / 2 ^ used) last
 
 -- a number has nothing above so many bits exactly if it fits in them
-when_nothing_above : (b : Bool) (v a n : ℕ) → v ≡ a / 2 ^ n → MatchBool b (a < 2 ^ n) (2 ^ n ≤ a) → MatchBool b (v ≡ 0) (0 < v)
+pub when_nothing_above : (b : Bool) (v a n : ℕ) → v ≡ a / 2 ^ n → MatchBool b (a < 2 ^ n) (2 ^ n ≤ a) → MatchBool b (v ≡ 0) (0 < v)
 when_nothing_above true v a n e h = e ∙ div-eq_of_lt h
 when_nothing_above false v a n e h = omega (arith, e, le-div 1 a (2 ^ n) (pow_pos n) (omega arith))
-
--- the bits past the end of the stream are 0, if the last message fits in the bits that the stream has of it
-pub filled_by_last : {k used : ℕ} (messages : List ℕ) (size : ℕ) → 0 < k → Below k messages → length messages ≡ messages_for k size → used ≡ (8 * (size + 2) - 1) % k + 1 → (last : Option (Bor ℕ)) → option_copied last ≡ slice_get messages (length messages - 1) → (filled : Bool) {P : Bor ℕ → Type 0} → MatchOption last (filled ≡ false) P → ((m : Bor ℕ) → P m → MatchBool filled (m.now < 2 ^ used) (2 ^ used ≤ m.now)) → MatchBool filled (joined k messages / 2 ^ (8 * (size + 2)) ≡ 0) (0 < joined k messages / 2 ^ (8 * (size + 2)))
-filled_by_last {k} {used} messages size some below count bits None is filled h fits =
-    let within : length messages - 1 < length messages = omega (arith, count, last_is k size some) in
-    let found = slice_get-get_or messages (length messages - 1) 0 within in
-    cc
-filled_by_last {k} {used} messages size some below count bits (Some m) is filled h fits =
-    let last : get_or messages (length messages - 1) 0 ≡ m.now = get_or_from_slice_get messages (length messages - 1) m.now 0 (sym is) in
-    when_nothing_above filled (joined k messages / 2 ^ (8 * (size + 2))) m.now used
-    (last_filling some messages size below count ∙ ap (λ (x : ℕ). x / 2 ^ ((8 * (size + 2) - 1) % k + 1)) last ∙ ap (λ (x : ℕ). m.now / 2 ^ x) (sym bits)) (fits m h)
 
 pub spellable_sized : {k : ℕ} {messages : List ℕ} {size : ℕ} → 0 < k → Spellable k messages size → Sized k messages size
 spellable_sized {k} {messages} {size} some so = record {

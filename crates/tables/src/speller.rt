@@ -52,6 +52,7 @@ impl<'a> Messages<'a> {
     }
 
     /// Whether the bits past the end of the stream are 0. All of them are in the last message.
+    #[tactic(auto, using(crate::proofs::Spelling::last_filling, crate::proofs::Spelling::when_nothing_above))]
     fn is_filled(&self, size: u16) -> bool
         requires { length self.now.list.now ≡ messages_for self.now.width.bits size }
         ensures { MatchBool result (joined self.now.width.bits self.now.list.now / 2 ^ (8 * (size + 2)) ≡ 0) (0 < joined self.now.width.bits self.now.list.now / 2 ^ (8 * (size + 2))) }
