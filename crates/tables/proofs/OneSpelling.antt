@@ -7,7 +7,7 @@ use Rattle.codes.specs.Interface.{in_service}
 use Rattle.codes.specs.Meaning.{One}
 use Rattle.codes.proofs.Answering.{service_decided}
 use Rattle.codes.proofs.Faults.{Decided}
-use Rattle.tables.specs.Feed.{joined, Below}
+use Rattle.tables.specs.Feed.{joined, Below, NoTable}
 use Rattle.tables.specs.Sender.{has_bits}
 use Rattle.tables.specs.Speller.{TableOf, is_table, buffer_fits, OneSpelling}
 use Rattle.tables.specs.Stream.{messages_for}
@@ -31,10 +31,7 @@ module _ {k : ℕ} (some : 0 < k) (messages : List ℕ) where
   abbrev Found : Type 0
   Found = (T : List ℕ) × TableOf k messages T
 
-  abbrev Missing : Type 0
-  Missing = (T : List ℕ) → TableOf k messages T → ⊥
-
-  tested : Below k messages → Found ⊎ Missing
+  tested : Below k messages → Found ⊎ NoTable k messages
   tested below =
       ⊎_elim
       (λ count.

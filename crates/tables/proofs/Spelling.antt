@@ -8,7 +8,7 @@ use Rattle.std.proofs.lemmas.List.FromFn.{length-map-range_with_len, get_or-map-
 use Rattle.std.proofs.lemmas.List.Elements.{All-from_get_or}
 use Rattle.std.proofs.lemmas.List.{drop_more, drop_all}
 use Rattle.codes.proofs.Answering.{short_by_shift}
-use Rattle.tables.specs.Feed.{joined, Below, Sized}
+use Rattle.tables.specs.Feed.{joined, past_end, Below, NoTable, Sized}
 use Rattle.tables.specs.Speller.{TableOf}
 use Rattle.tables.specs.Stream.{stream, message_at, messages_for, Messages}
 use Rattle.tables.proofs.Counts.{messages_cover, last_is, last_bits}
@@ -23,7 +23,7 @@ pub record Spellable (k : ℕ) (messages : List ℕ) (size : ℕ) : Type 0 where
   pub below : Below k messages
   pub told : size ≡ joined k messages % 65536
   pub count : length messages ≡ messages_for k size
-  pub filling : joined k messages / 2 ^ (8 * (size + 2)) ≡ 0
+  pub filling : past_end k messages size ≡ 0
 
 -- ---- from a table to its messages
 
@@ -125,16 +125,16 @@ module _ {k : ℕ} {messages : List ℕ} {size : ℕ} (so : Spellable k messages
 
 module _ {k : ℕ} (some : 0 < k) (messages : List ℕ) where
   -- messages that fail a test are those of no table
-  pub no_table : {size : ℕ} → size ≡ joined k messages % 65536 → (Spellable k messages size → ⊥) → (T : List ℕ) → TableOf k messages T → ⊥
+  pub no_table : {size : ℕ} → size ≡ joined k messages % 65536 → (Spellable k messages size → ⊥) → NoTable k messages
   no_table told fails T so =
       let found = table_spellable some so in
       fails (subst (Spellable k messages) (found.told ∙ sym told) found)
 
-  pub too_wide : ¬ (Below k messages) → (T : List ℕ) → TableOf k messages T → ⊥
+  pub too_wide : ¬ (Below k messages) → NoTable k messages
   too_wide wide T so = wide (table_spellable some so).below
 
   -- the filling is in the last message
-  pub last_filling : (size : ℕ) → Below k messages → length messages ≡ messages_for k size → joined k messages / 2 ^ (8 * (size + 2)) ≡ get_or messages (length messages - 1) 0 / 2 ^ ((8 * (size + 2) - 1) % k + 1)
+  pub last_filling : (size : ℕ) → Below k messages → length messages ≡ messages_for k size → past_end k messages size ≡ get_or messages (length messages - 1) 0 / 2 ^ ((8 * (size + 2) - 1) % k + 1)
   last_filling size below count =
       let v = joined k messages in
       let i = length messages - 1 in
@@ -160,7 +160,7 @@ spellable_sized {k} {messages} {size} some so = record {
 }
 
 -- a size is that of the table, if the messages pass the last test, and else no table has them
-pub sized_if_filled : {k : ℕ} (messages : List ℕ) (size : ℕ) → 0 < k → Below k messages → size ≡ joined k messages % 65536 → length messages ≡ messages_for k size → (filled : Bool) → MatchBool filled (joined k messages / 2 ^ (8 * (size + 2)) ≡ 0) (0 < joined k messages / 2 ^ (8 * (size + 2))) → MatchOption (then_some filled size) ((T : List ℕ) → TableOf k messages T → ⊥) (Sized k messages)
+pub sized_if_filled : {k : ℕ} (messages : List ℕ) (size : ℕ) → 0 < k → Below k messages → size ≡ joined k messages % 65536 → length messages ≡ messages_for k size → (filled : Bool) → MatchBool filled (past_end k messages size ≡ 0) (0 < past_end k messages size) → MatchOption (then_some filled size) (NoTable k messages) (Sized k messages)
 sized_if_filled messages size some below told count true filling =
     spellable_sized some (record { below = below; told = told; count = count; filling = filling })
 sized_if_filled messages size some below told count false over =

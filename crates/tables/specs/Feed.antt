@@ -1,5 +1,5 @@
--- The state of the loops that pass bits on. No contract that is seen outside cites any of this, so it need not be believed.
-use Rattle.std.specs.Prelude.{◌≡◌, ℕ, ◌+◌, ◌*◌, ◌%◌, ◌^◌, ◌<◌, List, [], ◌∷◌, length, map, All}
+-- What passes bits on, and what is found of messages on the way. No contract that is seen outside cites any of this, so it need not be believed.
+use Rattle.std.specs.Prelude.{◌≡◌, ℕ, ◌+◌, ◌*◌, ◌/◌, ◌%◌, ◌^◌, ◌<◌, List, [], ◌∷◌, length, map, All}
 use Rattle.tables.specs.Speller.{TableOf}
 
 -- symbols of `w` bits as one number, the first one lowest
@@ -29,6 +29,14 @@ pub record InHand {S : Type 0} (number : S → ℕ) (w : ℕ) (symbols : List S)
 -- each symbol has at most `w` bits
 abbrev pub Below : ℕ → List ℕ → Type 0
 Below w = All (λ s. s < 2 ^ w)
+
+-- what the messages hold past the end of the stream of a table of `size` bytes
+abbrev pub past_end : ℕ → List ℕ → ℕ → ℕ
+past_end k messages size = joined k messages / 2 ^ (8 * (size + 2))
+
+-- no table has these messages
+abbrev pub NoTable : ℕ → List ℕ → Type 0
+NoTable k messages = (T : List ℕ) → TableOf k messages T → ⊥
 
 -- the messages are those of a table of `size` bytes, and of no table of another size
 pub record Sized (k : ℕ) (messages : List ℕ) (size : ℕ) : Type 0 where

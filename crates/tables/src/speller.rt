@@ -1,6 +1,6 @@
 //! Spells out the table that a list of messages holds.
-ghost use Rattle.std.specs.Prelude.{◌≡◌, ℕ, ◌+◌, ◌*◌, ◌/◌, ◌%◌, ◌^◌, ◌<◌, List, length, MatchBool, MatchOption};
-ghost use Rattle.tables.specs.Feed.{supply, joined, Below, Sized};
+ghost use Rattle.std.specs.Prelude.{◌≡◌, ◌/◌, ◌%◌, ◌<◌, length, MatchBool, MatchOption};
+ghost use Rattle.tables.specs.Feed.{supply, joined, past_end, Below, NoTable, Sized};
 ghost use Rattle.tables.specs.Speller.{TableOf, Spelled, OneSpelling};
 ghost use Rattle.tables.specs.Stream.{messages_for};
 
@@ -28,7 +28,7 @@ impl<'a> Messages<'a> {
     /// The messages, or `None` where one is too wide to be a table's.
     #[tactic(auto, using(crate::proofs::Spelling::too_wide))]
     fn fitting(list: &'a [u64], width: Width) -> Option<Messages<'a>>
-        ensures { MatchOption result ((T : List ℕ) → TableOf width.bits list.now T → ⊥) (λ messages. (messages.list.now ≡ list.now) × (messages.width ≡ width)) }
+        ensures { MatchOption result (NoTable width.bits list.now) (λ messages. (messages.list.now ≡ list.now) × (messages.width ≡ width)) }
     {
         // `then_some` would make the value before it is known that each message fits.
         if list.iter().all(|message| fits_in(*message, width.bits)) {
@@ -55,7 +55,7 @@ impl<'a> Messages<'a> {
     #[tactic(auto, using(crate::proofs::Spelling::last_filling, crate::proofs::Spelling::when_nothing_above))]
     fn is_filled(&self, size: u16) -> bool
         requires { length self.now.list.now ≡ messages_for self.now.width.bits size }
-        ensures { MatchBool result (joined self.now.width.bits self.now.list.now / 2 ^ (8 * (size + 2)) ≡ 0) (0 < joined self.now.width.bits self.now.list.now / 2 ^ (8 * (size + 2))) }
+        ensures { MatchBool result (past_end self.now.width.bits self.now.list.now size ≡ 0) (0 < past_end self.now.width.bits self.now.list.now size) }
     {
         let used = self.width.bits_in_last(size);
         self.list.last().is_some_and(|last| fits_in(*last, used))
@@ -64,7 +64,7 @@ impl<'a> Messages<'a> {
     /// The size of the table that has these messages, or `None` where no table has them.
     #[tactic(auto, using(crate::proofs::Spelling::sized_if_filled, crate::proofs::Spelling::no_table))]
     fn table_size(&self) -> Option<u16>
-        ensures { MatchOption result ((T : List ℕ) → TableOf self.now.width.bits self.now.list.now T → ⊥) (Sized self.now.width.bits self.now.list.now) }
+        ensures { MatchOption result (NoTable self.now.width.bits self.now.list.now) (Sized self.now.width.bits self.now.list.now) }
     {
         let size = self.header().size;
         if self.list.len() != self.width.messages_for(size) {
