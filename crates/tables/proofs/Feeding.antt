@@ -1,86 +1,85 @@
 -- Bits in hand and symbols to come.
-use Rattle.std.proofs.Common.{◌≡◌, ℕ, ◌+◌, ◌-◌, ◌*◌, ◌/◌, ◌%◌, ◌^◌, ◌<◌, ◌≤◌, ◌⊎◌, List, length, get_or, drop, sym, ap, ◌∙◌, subst, ⊎_elim, le_of_lt, mod-eq_of_lt, mul_assoc, mul_comm, add-mul, one-mul, mul-zero, zero-mul, mul-add, arith, pow_pos, pow_mono, pow-add, shr_lt}
-use native.Mathlib.Nat.{div-eq_of_lt, mod-add-div', add-mul-div_right}
+use Rattle.std.proofs.Common.{◌≡◌, ℕ, suc, ◌+◌, ◌-◌, ◌*◌, ◌/◌, ◌%◌, ◌^◌, ◌<◌, ◌≤◌, List, [], ◌∷◌, All, map, length, get_or, drop, zero-lt-suc, suc-le-suc, sym, ap, ◌∙◌, subst, le_of_lt, mod-eq_of_lt, mul_assoc, mul_comm, add-mul, one-mul, mul-add, mul-zero, arith, pow_pos, pow_mono, pow-add, shr_lt}
+use native.Mathlib.Nat.{mod-add-div', add-mul-div_right}
 use Rattle.std.proofs.lemmas.Nat.{mul-le}
-use Rattle.std.proofs.lemmas.List.{drop_more, drop_all}
-use Rattle.std.proofs.lemmas.Bool.{cases_lt}
-use Rattle.tables.specs.declared.feed.Feed.{Feed}
-use Rattle.tables.specs.Feed.{feed, InHand, joined, left}
+use Rattle.tables.specs.Feed.{InHand, joined, left}
 
--- one symbol more in hand
-module _ {f : Feed} (s w : ℕ) (so : InHand f) (small : s < 2 ^ w) where
-  taken_below : f.held + s * 2 ^ f.bits < 2 ^ (f.bits + w)
-  taken_below =
-      omega (arith, so.below, pow-add 2 f.bits w, mul-le (s + 1) (2 ^ f.bits) (2 ^ w) (2 ^ f.bits) (omega arith) (omega arith), add-mul s 1 (2 ^ f.bits), one-mul (2 ^ f.bits), mul_comm (2 ^ f.bits) (2 ^ w))
+module _ {S : Type 0} {number : S → ℕ} {w held bits : ℕ} where
+  first_below : (symbols : List S) → InHand number w symbols held bits → get_or (map number symbols) 0 0 < 2 ^ w
+  first_below [] so = pow_pos w
+  first_below (s ∷ ss) so = so.fits 0 s (zero-lt-suc (length ss))
 
-  pub taken_fits : f.bits + w < 64 → f.held + s * 2 ^ f.bits < 2 ^ 64
-  taken_fits h =
-      let top : f.bits + w ≤ 64 = omega arith in
-      let wide : 2 ^ (f.bits + w) ≤ 2 ^ 64 = pow_mono top in
-      omega (arith, taken_below)
+  others_fit : (symbols : List S) → InHand number w symbols held bits → All (λ s. number s < 2 ^ w) (drop 1 symbols)
+  others_fit [] so = so.fits
+  others_fit (s ∷ ss) so = λ k d l. so.fits (suc k) d (suc-le-suc l)
 
-  module _ {g : Feed} (e : g ≡ feed (f.held + s * 2 ^ f.bits) (f.bits + w)) where
-    pub taken_in_hand : f.bits + w < 50 → InHand g
-    taken_in_hand h = subst InHand (sym e) (record { few = h; below = taken_below })
+  first_joined : (symbols : List S) → InHand number w symbols held bits → joined w (map number symbols) ≡ get_or (map number symbols) 0 0 + 2 ^ w * joined w (map number (drop 1 symbols))
+  first_joined [] so = omega (arith, mul-zero (2 ^ w))
+  first_joined (s ∷ ss) so =
+      ap (λ (x : ℕ). x + 2 ^ w * joined w (map number ss)) (mod-eq_of_lt (first_below (s ∷ ss) so))
 
-    pub taken_left : (ss : List ℕ) (next : ℕ) → next < length ss → s ≡ get_or ss next 0 → left w ss (next + 1) g ≡ left w ss next f
-    taken_left ss next l p =
-        let rest = joined w (drop (next + 1) ss) in
-        let b = 2 ^ f.bits in
-        let first : joined w (drop next ss) ≡ get_or ss next 0 % 2 ^ w + 2 ^ w * rest = ap (joined w) (drop_more ss next 0 l) in
-        let whole : get_or ss next 0 % 2 ^ w ≡ s = ap (λ (x : ℕ). x % 2 ^ w) (sym p) ∙ mod-eq_of_lt small in
-        let split : b * joined w (drop next ss) ≡ b * s + b * (2 ^ w * rest) =
-        ap (λ (x : ℕ). b * x) (first ∙ ap (λ (x : ℕ). x + 2 ^ w * rest) whole) ∙ mul-add b s (2 ^ w * rest) in
-        ap (left w ss (next + 1)) e
-        ∙ omega (arith, split, ap (λ (x : ℕ). x * rest) (pow-add 2 f.bits w), mul_assoc b (2 ^ w) rest, mul_comm b s)
+  -- one symbol more in hand
+  module _ {symbols rest : List S} {symbol : ℕ} (so : InHand number w symbols held bits) (is : symbol ≡ get_or (map number symbols) 0 0) (others : rest ≡ drop 1 symbols) (room : bits + w < 64) where
+    taken_below : held + symbol * 2 ^ bits < 2 ^ (bits + w)
+    taken_below =
+        let small : symbol < 2 ^ w = omega (arith, first_below symbols so) in
+        omega (arith, so.below, small, pow-add 2 bits w, mul-le (symbol + 1) (2 ^ bits) (2 ^ w) (2 ^ bits) (omega arith) (omega arith), add-mul symbol 1 (2 ^ bits), one-mul (2 ^ bits), mul_comm (2 ^ bits) (2 ^ w))
 
--- the lowest bits drawn
-module _ {f : Feed} (so : InHand f) (k : ℕ) {g : Feed} (e : g ≡ feed (f.held / 2 ^ k) (f.bits - k)) where
-  drawn_below : f.held / 2 ^ k < 2 ^ (f.bits - k)
-  drawn_below =
-      ⊎_elim
-      (λ l.
-      let wide : 2 ^ f.bits ≤ 2 ^ k = pow_mono (le_of_lt l) in
-      let over : f.held < 2 ^ k = omega (arith, so.below) in
-      omega (arith, div-eq_of_lt over, pow_pos (f.bits - k)))
-      (λ l.
-      let sum : f.bits ≡ f.bits - k + k = omega arith in
-      shr_lt (f.bits - k) k (subst (λ (x : ℕ). f.held < 2 ^ x) sum so.below))
-      (cases_lt f.bits k)
+    -- the shift drops no bit
+    shifted : symbol * 2 ^ bits % 2 ^ 64 ≡ symbol * 2 ^ bits
+    shifted =
+        let wide : 2 ^ (bits + w) ≤ 2 ^ 64 = pow_mono (le_of_lt room) in
+        mod-eq_of_lt (omega (arith, taken_below))
 
-  pub drawn_in_hand : InHand g
-  drawn_in_hand = subst InHand (sym e) (record { few = omega (arith, so.few); below = drawn_below })
+    pub taken_fits : held + symbol * 2 ^ bits % 2 ^ 64 < 2 ^ 64
+    taken_fits =
+        let wide : 2 ^ (bits + w) ≤ 2 ^ 64 = pow_mono (le_of_lt room) in
+        omega (arith, taken_below, shifted)
 
-module _ (w : ℕ) (ss : List ℕ) (next k : ℕ) (f : Feed) (enough : (k ≤ f.bits) ⊎ (length ss ≤ next)) where
-  abbrev to_come : ℕ
-  to_come = joined w (drop next ss)
+    pub taken_in_hand : InHand number w rest (held + symbol * 2 ^ bits % 2 ^ 64) (bits + w)
+    taken_in_hand = record {
+      some = so.some;
+      few = room;
+      below = omega (arith, taken_below, shifted);
+      fits = subst (λ (ss : List S). All (λ s. number s < 2 ^ w) ss) (sym others) (others_fit symbols so);
+    }
 
-  -- what is to come starts above the bits drawn
-  aligned : 2 ^ f.bits * to_come ≡ (2 ^ (f.bits - k) * to_come) * 2 ^ k
-  aligned =
-      ⊎_elim
-      (λ l.
-      let b = f.bits - k in
-      let sum : f.bits ≡ b + k = omega arith in
-      ap (λ (x : ℕ). 2 ^ x * to_come) sum ∙ ap (λ (x : ℕ). x * to_come) (pow-add 2 b k) ∙ mul_assoc (2 ^ b) (2 ^ k) to_come
-      ∙ ap (λ (x : ℕ). 2 ^ b * x) (mul_comm (2 ^ k) to_come) ∙ sym (mul_assoc (2 ^ b) to_come (2 ^ k)))
-      (λ l.
-      let none : to_come ≡ 0 = ap (joined w) (drop_all next ss l) in
-      subst (λ (x : ℕ). 2 ^ f.bits * x ≡ (2 ^ (f.bits - k) * x) * 2 ^ k) (sym none)
-      (mul-zero (2 ^ f.bits) ∙ sym (ap (λ (x : ℕ). x * 2 ^ k) (mul-zero (2 ^ (f.bits - k))) ∙ zero-mul (2 ^ k))))
-      enough
+    pub taken_left : left number w rest (held + symbol * 2 ^ bits % 2 ^ 64) (bits + w) ≡ left number w symbols held bits
+    taken_left =
+        let b = 2 ^ bits in
+        let later = joined w (map number (drop 1 symbols)) in
+        let split : b * joined w (map number symbols) ≡ b * symbol + b * (2 ^ w * later) =
+        ap (λ (x : ℕ). b * x) (first_joined symbols so ∙ ap (λ (x : ℕ). x + 2 ^ w * later) (sym is)) ∙ mul-add b symbol (2 ^ w * later) in
+        ap (λ (ss : List S). left number w ss (held + symbol * 2 ^ bits % 2 ^ 64) (bits + w)) others
+        ∙ omega (arith, split, shifted, ap (λ (x : ℕ). x * later) (pow-add 2 bits w), mul_assoc b (2 ^ w) later, mul_comm b symbol)
 
-  split_left : left w ss next f ≡ f.held + (2 ^ (f.bits - k) * to_come) * 2 ^ k
-  split_left = ap (λ (x : ℕ). f.held + x) aligned
+  -- the lowest k bits drawn
+  module _ {symbols : List S} (so : InHand number w symbols held bits) {k : ℕ} (enough : k ≤ bits) where
+    whole : bits ≡ bits - k + k
+    whole = omega arith
 
-  rest_left : f.held / 2 ^ k + 2 ^ (f.bits - k) * to_come ≡ left w ss next f / 2 ^ k
-  rest_left =
-      sym (ap (λ (x : ℕ). x / 2 ^ k) split_left ∙ add-mul-div_right f.held (2 ^ (f.bits - k) * to_come) (pow_pos k))
+    pub drawn_in_hand : InHand number w symbols (held / 2 ^ k) (bits - k)
+    drawn_in_hand = record {
+      some = so.some;
+      few = omega (arith, so.few);
+      below = shr_lt (bits - k) k (subst (λ (x : ℕ). held < 2 ^ x) whole so.below);
+      fits = so.fits;
+    }
 
-  pub drawn_left : {g : Feed} → g ≡ feed (f.held / 2 ^ k) (f.bits - k) → left w ss next g ≡ left w ss next f / 2 ^ k
-  drawn_left e = ap (left w ss next) e ∙ rest_left
+    -- what is to come starts above the bits drawn
+    abbrev above : ℕ
+    above = 2 ^ (bits - k) * joined w (map number symbols)
 
-  pub drawn_symbol : f.held % 2 ^ k ≡ left w ss next f % 2 ^ k
-  drawn_symbol =
-      let y = 2 ^ (f.bits - k) * to_come in
-      omega (arith, split_left, mod-add-div' f.held (2 ^ k), mod-add-div' (left w ss next f) (2 ^ k), ap (λ (x : ℕ). x * 2 ^ k) rest_left, add-mul (f.held / 2 ^ k) y (2 ^ k))
+    split_left : left number w symbols held bits ≡ held + above * 2 ^ k
+    split_left =
+        let later = joined w (map number symbols) in
+        let b = bits - k in
+        ap (λ (x : ℕ). held + 2 ^ x * later) whole
+        ∙ omega (arith, ap (λ (x : ℕ). x * later) (pow-add 2 b k), mul_assoc (2 ^ b) (2 ^ k) later, ap (λ (x : ℕ). 2 ^ b * x) (mul_comm (2 ^ k) later), mul_assoc (2 ^ b) later (2 ^ k))
+
+    pub drawn_left : left number w symbols (held / 2 ^ k) (bits - k) ≡ left number w symbols held bits / 2 ^ k
+    drawn_left = sym (ap (λ (x : ℕ). x / 2 ^ k) split_left ∙ add-mul-div_right held above (pow_pos k))
+
+    pub drawn_number : held % 2 ^ k ≡ left number w symbols held bits % 2 ^ k
+    drawn_number =
+        omega (arith, split_left, mod-add-div' held (2 ^ k), mod-add-div' (left number w symbols held bits) (2 ^ k), ap (λ (x : ℕ). x * 2 ^ k) drawn_left, add-mul (held / 2 ^ k) above (2 ^ k))

@@ -1,12 +1,13 @@
 -- Spelling leaves one answer and one buffer.
-use Rattle.std.proofs.Common.{◌≡◌, ℕ, zero, suc, ◌+◌, ◌*◌, ◌/◌, ◌%◌, ◌^◌, ◌<◌, ◌≤◌, ◌⊎◌, List, [], ◌∷◌, ◌++◌, length, get_or, drop, refl, ap, ◌∙◌, inl, inr, ⊎_elim, suc-le-suc, le_of_suc-le-suc, zero-lt-suc, arith}
+use Rattle.std.proofs.Common.{◌≡◌, ℕ, suc, ◌+◌, ◌*◌, ◌/◌, ◌%◌, ◌^◌, ◌<◌, ◌⊎◌, List, [], ◌∷◌, ◌++◌, length, drop, refl, ap, ◌∙◌, inl, inr, ⊎_elim, suc-le-suc, zero-lt-suc, arith}
+use Rattle.std.proofs.lemmas.List.Elements.{All-nil, All-cons}
 use Rattle.std.proofs.lemmas.Bool.{cases_eq, cases_lt}
 use Rattle.codes.specs.declared.fault.Cause.TheVariants.{NotATable, TooShort}
 use Rattle.codes.specs.Interface.{in_service}
 use Rattle.codes.specs.Meaning.{One}
 use Rattle.codes.proofs.Answering.{service_decided}
 use Rattle.codes.proofs.Faults.{Decided}
-use Rattle.tables.specs.Feed.{joined, Below}
+use Rattle.tables.specs.Feed.{joined, Below, NoTable}
 use Rattle.tables.specs.Sender.{has_bits}
 use Rattle.tables.specs.Speller.{TableOf, is_table, buffer_fits, OneSpelling}
 use Rattle.tables.specs.Stream.{messages_for}
@@ -14,18 +15,14 @@ use Rattle.tables.proofs.Sending.{bits_decided}
 use Rattle.tables.proofs.Spelling.{spelt, one_table, no_table, too_wide, spellable_table}
 use Rattle.codes.proofs.Faults.{one_transition}
 
--- every symbol has at most w bits, or one has more
-below_or_wide : (w : ℕ) (ss : List ℕ) → Below w ss ⊎ ((i : ℕ) × (i < length ss) × (2 ^ w ≤ get_or ss i 0))
-below_or_wide w [] = inl (λ i l. absurd (omega arith))
+-- every message has at most w bits, or not
+below_or_wide : (w : ℕ) (ss : List ℕ) → Below w ss ⊎ ¬ (Below w ss)
+below_or_wide w [] = inl (All-nil (λ s. s < 2 ^ w))
 below_or_wide w (s ∷ ss) =
     ⊎_elim
-    (λ low. ⊎_elim (λ rest. inl (both low rest)) (λ wide. inr (suc wide.0, suc-le-suc wide.1, wide.2)) (below_or_wide w ss))
-    (λ high. inr (0, zero-lt-suc (length ss), high))
+    (λ low. ⊎_elim (λ rest. inl (All-cons (λ s. s < 2 ^ w) s ss low rest)) (λ wide. inr (λ all. wide (λ i d l. all (suc i) d (suc-le-suc l)))) (below_or_wide w ss))
+    (λ high. inr (λ all. let low = all 0 0 (zero-lt-suc (length ss)) in omega arith))
     (cases_lt s (2 ^ w))
-  where
-    both : s < 2 ^ w → Below w ss → Below w (s ∷ ss)
-    both low rest zero l = low
-    both low rest (suc i) l = rest i (le_of_suc-le-suc l)
 
 module _ {k : ℕ} (some : 0 < k) (messages : List ℕ) where
   abbrev told : ℕ
@@ -34,10 +31,7 @@ module _ {k : ℕ} (some : 0 < k) (messages : List ℕ) where
   abbrev Found : Type 0
   Found = (T : List ℕ) × TableOf k messages T
 
-  abbrev Missing : Type 0
-  Missing = (T : List ℕ) → TableOf k messages T → ⊥
-
-  tested : Below k messages → Found ⊎ Missing
+  tested : Below k messages → Found ⊎ NoTable k messages
   tested below =
       ⊎_elim
       (λ count.

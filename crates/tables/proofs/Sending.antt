@@ -1,66 +1,56 @@
 -- The words of a table, one after the other.
-use Rattle.std.proofs.Common.{◌≡◌, ℕ, zero, suc, ◌+◌, ◌*◌, ◌/◌, ◌%◌, ◌^◌, ◌<◌, ◌≤◌, ◌≢◌, List, [], ◌∷◌, length, get_or, set, sym, refl, ap, ◌∙◌, subst, inl, inr, ⊎_elim, add-mul, one-mul, add-one, arith, shr-shr}
-use Rattle.std.proofs.lemmas.List.{length-set, get_or-set_same, get_or-set_other, ext_get_or}
-use Rattle.std.proofs.lemmas.Bool.{cases_eq, cases_lt}
+use Rattle.std.proofs.Common.{◌≡◌, ℕ, ◌+◌, ◌-◌, ◌*◌, ◌/◌, ◌%◌, ◌^◌, ◌<◌, ◌≤◌, List, [], ◌∷◌, ◌++◌, length, map, drop, get_or, sym, refl, ap, ◌∙◌, subst, inl, inr, ⊎_elim, add-mul, one-mul, arith, shr-shr, length-append, length-drop}
+use Rattle.std.specs.List.{range_with_len}
+use Rattle.std.proofs.lemmas.List.FromFn.{length-map-range_with_len, get_or-map-range_with_len}
+use Rattle.std.proofs.lemmas.List.{get_or-append_right, get_or-drop, ext_get_or}
+use Rattle.std.proofs.Math.ListN.{get_or-append}
+use Rattle.std.proofs.lemmas.Bool.{cases_lt}
 use Rattle.codes.specs.declared.fault.Cause.TheVariants.{NoMessageBits, TableTooLong, TooShort}
 use Rattle.codes.specs.Interface.{in_service}
 use Rattle.codes.specs.Meaning.{Meaning, Lawful, One, Carries}
 use Rattle.codes.proofs.Answering.{service_decided}
 use Rattle.codes.proofs.Faults.{Decided}
 use Rattle.codes.proofs.Reach.{same_message}
-use Rattle.tables.specs.declared.feed.Feed.{Feed}
-use Rattle.tables.specs.Feed.{joined, left}
+use Rattle.tables.specs.Feed.{Supply, supply, joined}
 use Rattle.tables.specs.Sender.{has_bits, words_for, table_fits, list_fits, Words, OneSending}
-use Rattle.tables.specs.Stream.{stream, message_at}
+use Rattle.tables.specs.Stream.{stream, message_at, messages_for}
 use Rattle.tables.proofs.Joined.{message_is, message_below}
 use Rattle.codes.proofs.Faults.{one_transition}
 
--- ---- the first words written
-
-pub record Written (m : Meaning) (table before after : List ℕ) (i : ℕ) : Type 0 where
-  pub count : length after ≡ length before
-  pub each : (j : ℕ) → j < i → Carries m (message_at m.k table j) (get_or after j 0)
-  pub rest : (j : ℕ) → i ≤ j → get_or after j 0 ≡ get_or before j 0
-
-pub written_none : (m : Meaning) (table before : List ℕ) → Written m table before before 0
-written_none m table before = record { count = refl; each = λ j l. absurd (omega arith); rest = λ j l. refl }
-
-pub written_more : {m : Meaning} {table before after : List ℕ} {i : ℕ} → Written m table before after i → (v : ℕ) → i < length before → Carries m (message_at m.k table i) v → Written m table before (set after i v) (i + 1)
-written_more {m} {table} {before} {after} {i} so v l here =
-    let l' : i < length after = omega (arith, so.count) in
+-- the words of a list whose first ones were written, each by its message
+pub words_written : {m : Meaning} (table before items : List ℕ) (k count : ℕ) → k ≡ m.k → count ≡ messages_for k (length table) → count ≤ length before → length items ≡ count → ((i : ℕ) → i < length items → Carries m (message_at k table i) (get_or items i 0)) → Words m table before (items ++ drop count before)
+words_written {m} table before items k count width is room size each =
+    let rest = drop count before in
+    let same : count ≡ words_for m table = is ∙ ap (λ (x : ℕ). messages_for x (length table)) width in
     record {
-      count = length-set after i v ∙ so.count;
-      each = λ j low.
-          ⊎_elim
-          (λ same.
-          subst (λ (x : ℕ). Carries m (message_at m.k table x) (get_or (set after i v) x 0)) (sym same)
-          (subst (λ (x : ℕ). Carries m (message_at m.k table i) x) (sym (get_or-set_same after i v 0 l')) here))
-          (λ ne.
-          subst (λ (x : ℕ). Carries m (message_at m.k table j) x) (sym (get_or-set_other after i j v 0 ne)) (so.each j (omega arith)))
-          (cases_eq j i);
-      rest = λ j low.
-          let ne : j ≢ i = omega arith in
-          get_or-set_other after i j v 0 ne ∙ so.rest j (omega arith);
+      count = length-append items rest ∙ omega (arith, length-drop count before);
+      each = λ i low.
+          let first : i < length items = omega arith in
+          let word : get_or (items ++ rest) i 0 ≡ get_or items i 0 = get_or-append items rest 0 i first in
+          subst (λ (x : ℕ). Carries m (message_at x table i) (get_or (items ++ rest) i 0)) width
+          (subst (λ (x : ℕ). Carries m (message_at k table i) x) (sym word) (each i first));
+      rest = λ i past.
+          let there : count + (i - count) ≡ i = omega arith in
+          get_or-append_right items rest count i 0 size (omega arith) ∙ get_or-drop count before (i - count) 0
+          ∙ ap (λ (x : ℕ). get_or before x 0) there;
     }
 
-pub written_next : {m : Meaning} {table before after : List ℕ} {i : ℕ} → Written m table before after i → (k a v : ℕ) → i < length before → k ≡ m.k → a ≡ message_at k table i → Carries m a v → Written m table before (set after i v) (i + 1)
-written_next {m} {table} {before} {after} {i} so k a v l width message carries =
-    written_more so v l (subst (λ (x : ℕ). Carries m x v) (message ∙ ap (λ (x : ℕ). message_at x table i) width) carries)
-
--- ---- the messages drawn from a feed
+-- ---- the messages drawn from the stream
 
 -- once i messages are drawn, the rest of the stream is left
-abbrev pub Remaining : ℕ → List ℕ → ℕ → ℕ → Feed → Type 0
-Remaining k table i next f = left 8 (stream table) next f ≡ joined 8 (stream table) / 2 ^ (i * k)
+abbrev pub Remaining : ℕ → List ℕ → ℕ → Supply → Type 0
+Remaining k table i feed = feed ≡ supply (joined 8 (stream table) / 2 ^ (i * k)) 8
 
-module _ (k : ℕ) (table : List ℕ) (i next : ℕ) (f : Feed) (so : Remaining k table i next f) where
-  pub remaining_less : (next' : ℕ) (g : Feed) → left 8 (stream table) next' g ≡ left 8 (stream table) next f / 2 ^ k → Remaining k table (i + 1) next' g
-  remaining_less next' g e =
-      e ∙ ap (λ (x : ℕ). x / 2 ^ k) so ∙ shr-shr (joined 8 (stream table)) (i * k) k
-      ∙ ap (λ (x : ℕ). joined 8 (stream table) / 2 ^ x) (sym (add-mul i 1 k ∙ ap (λ (x : ℕ). i * k + x) (one-mul k)))
+module _ (k : ℕ) (table : List ℕ) (i : ℕ) (before : Supply) (so : Remaining k table i before) where
+  pub remaining_less : (after : Supply) → after ≡ supply (before.left / 2 ^ k) before.width → Remaining k table (i + 1) after
+  remaining_less after e =
+      let less : joined 8 (stream table) / 2 ^ (i * k) / 2 ^ k ≡ joined 8 (stream table) / 2 ^ ((i + 1) * k) =
+      shr-shr (joined 8 (stream table)) (i * k) k
+      ∙ ap (λ (x : ℕ). joined 8 (stream table) / 2 ^ x) (sym (add-mul i 1 k ∙ ap (λ (x : ℕ). i * k + x) (one-mul k))) in
+      e ∙ ap (λ (s : Supply). supply (s.left / 2 ^ k) s.width) so ∙ ap (λ (x : ℕ). supply x 8) less
 
-  pub next_message : (a : ℕ) → a ≡ left 8 (stream table) next f % 2 ^ k → a ≡ message_at k table i
-  next_message a e = e ∙ ap (λ (x : ℕ). x % 2 ^ k) so ∙ sym (message_is k table i)
+  pub next_message : (a : ℕ) → a ≡ before.left % 2 ^ k → a ≡ message_at k table i
+  next_message a e = e ∙ ap (λ (s : Supply). s.left % 2 ^ k) so ∙ sym (message_is k table i)
 
 -- ---- one answer and one list
 
@@ -86,13 +76,6 @@ list_decided m table list = record {
 }
 
 module _ {m : Meaning} (law : Lawful m) (table before : List ℕ) where
-  writes : (i : ℕ) → i ≤ length before → (after : List ℕ) × Written m table before after i
-  writes zero l = (before, written_none m table before)
-  writes (suc i) l =
-      let so = writes i (omega arith) in
-      let v = law.encodes (message_at m.k table i) (message_below m.k table i) in
-      (set so.0 i v.0, subst (Written m table before (set so.0 i v.0)) (add-one i) (written_more so.1 v.0 (omega arith) v.1))
-
   same_words : (xs ys : List ℕ) → Words m table before xs → Words m table before ys → xs ≡ ys
   same_words xs ys p q =
       ext_get_or 0 xs ys (p.count ∙ sym q.count)
@@ -107,12 +90,21 @@ module _ {m : Meaning} (law : Lawful m) (table before : List ℕ) where
 
   one_words : words_for m table ≤ length before → One {A = ℕ × List ℕ} (λ x. (x.0 ≡ words_for m table) × Words m table before x.1)
   one_words room =
-      let so = writes (words_for m table) room in
-      let words : Words m table before so.0 = record { count = so.1.count; each = so.1.each; rest = so.1.rest } in (
-        (words_for m table, so.0),
+      let count = words_for m table in
+      let encoded : (i : ℕ) → (v : ℕ) × Carries m (message_at m.k table i) v =
+      λ i. let found = law.encodes (message_at m.k table i) (message_below m.k table i) in (found.0, found.1) in
+      let word : ℕ → ℕ = λ i. (encoded i).0 in
+      let items = map word (range_with_len 0 count) in
+      let size : length items ≡ count = length-map-range_with_len word 0 count in
+      let words : Words m table before (items ++ drop count before) =
+      words_written table before items m.k count refl refl room size
+      (λ i l.
+      let is : get_or items i 0 ≡ word i = get_or-map-range_with_len word 0 count i i 0 (omega arith) (omega arith) in
+      subst (Carries m (message_at m.k table i)) (sym is) (encoded i).1) in (
+        (count, items ++ drop count before),
         (refl, words),
         λ x p.
-            ap (λ (c : ℕ). (c, x.1)) p.0 ∙ ap (λ (ws : List ℕ). (words_for m table, ws)) (same_words x.1 so.0 p.1 words),
+            ap (λ (c : ℕ). (c, x.1)) p.0 ∙ ap (λ (ws : List ℕ). (count, ws)) (same_words x.1 (items ++ drop count before) p.1 words),
       )
 
 pub one_sending : OneSending

@@ -1,12 +1,14 @@
 -- Tables and their messages, each from the other.
-use Rattle.std.proofs.Common.{◌≡◌, ℕ, zero, suc, ◌+◌, ◌-◌, ◌*◌, ◌/◌, ◌%◌, ◌^◌, ◌<◌, ◌≤◌, Bool, true, false, List, [], ◌∷◌, ◌++◌, map, length, get_or, drop, set, MatchBool, sym, refl, ap, ◌∙◌, subst, mod-eq_of_lt, mul-zero, arith, pow_pos, pow_mono, shr-shr}
+use Rattle.std.proofs.Common.{◌≡◌, ℕ, zero, suc, ◌+◌, ◌-◌, ◌*◌, ◌/◌, ◌%◌, ◌^◌, ◌<◌, ◌≤◌, Bool, true, false, List, [], ◌∷◌, map, length, get_or, drop, MatchBool, MatchOption, sym, refl, ap, ◌∙◌, subst, mod-eq_of_lt, mul-zero, arith, pow_pos, pow_mono, shr-shr}
 use native.Mathlib.Nat.{div-eq_of_lt, mod-mod}
+use Rattle.std.specs.Bool.{then_some}
 use Rattle.std.specs.List.{range_with_len}
 use Rattle.std.proofs.lemmas.Nat.{mod_below, le-div}
-use Rattle.std.proofs.lemmas.List.FromFn.{length-map-range_with_len, get_or-map-range_with_len, map-range_with_len_more, fill_by_all}
-use Rattle.std.proofs.lemmas.List.{drop_more, drop_all, set_at, append_assoc}
+use Rattle.std.proofs.lemmas.List.FromFn.{length-map-range_with_len, get_or-map-range_with_len, fill_by_all}
+use Rattle.std.proofs.lemmas.List.Elements.{All-from_get_or}
+use Rattle.std.proofs.lemmas.List.{drop_more, drop_all}
 use Rattle.codes.proofs.Answering.{short_by_shift}
-use Rattle.tables.specs.Feed.{joined, Below, Sized}
+use Rattle.tables.specs.Feed.{joined, past_end, Below, NoTable, Sized}
 use Rattle.tables.specs.Speller.{TableOf}
 use Rattle.tables.specs.Stream.{stream, message_at, messages_for, Messages}
 use Rattle.tables.proofs.Counts.{messages_cover, last_is, last_bits}
@@ -21,7 +23,7 @@ pub record Spellable (k : ℕ) (messages : List ℕ) (size : ℕ) : Type 0 where
   pub below : Below k messages
   pub told : size ≡ joined k messages % 65536
   pub count : length messages ≡ messages_for k size
-  pub filling : joined k messages / 2 ^ (8 * (size + 2)) ≡ 0
+  pub filling : past_end k messages size ≡ 0
 
 -- ---- from a table to its messages
 
@@ -49,7 +51,7 @@ module _ {k : ℕ} {messages table : List ℕ} (some : 0 < k) (so : TableOf k me
 
   pub table_spellable : Spellable k messages (length table)
   table_spellable = record {
-    below = λ i l. subst (λ (x : ℕ). x < 2 ^ k) (sym (so.held.each i l)) (message_below k table i);
+    below = All-from_get_or (λ s. s < 2 ^ k) messages 0 (λ i l. subst (λ (x : ℕ). x < 2 ^ k) (sym (so.held.each i l)) (message_below k table i));
     told = size_told;
     count = so.held.count;
     filling = ap (λ (x : ℕ). x / 2 ^ (8 * (length table + 2))) joined_is ∙ div-eq_of_lt (stream_below table);
@@ -77,7 +79,7 @@ has_messages k table =
     let size : length ms ≡ c = length-map-range_with_len (message_at k table) 0 c in
     let each : (i : ℕ) → i < length ms → get_or ms i 0 ≡ message_at k table i =
     λ i l. get_or-map-range_with_len (message_at k table) 0 c i i 0 (omega (arith, size)) (omega arith) in
-    (ms, record { count = size; each = each }, λ i l. subst (λ (x : ℕ). x < 2 ^ k) (sym (each i l)) (message_below k table i))
+    (ms, record { count = size; each = each }, All-from_get_or (λ s. s < 2 ^ k) ms 0 (λ i l. subst (λ (x : ℕ). x < 2 ^ k) (sym (each i l)) (message_below k table i)))
 
 -- ---- from messages to the table
 
@@ -114,7 +116,7 @@ module _ {k : ℕ} {messages : List ℕ} {size : ℕ} (so : Spellable k messages
     held = record {
       count = so.count ∙ ap (messages_for k) (sym table_size);
       each = λ i l.
-          sym (mod-eq_of_lt (so.below i l)) ∙ sym (joined_digit k messages i) ∙ ap (λ (x : ℕ). x / 2 ^ (i * k) % 2 ^ k) (sym stream_is)
+          sym (mod-eq_of_lt (so.below i 0 l)) ∙ sym (joined_digit k messages i) ∙ ap (λ (x : ℕ). x / 2 ^ (i * k) % 2 ^ k) (sym stream_is)
           ∙ sym (message_is k table i);
     };
   }
@@ -123,16 +125,16 @@ module _ {k : ℕ} {messages : List ℕ} {size : ℕ} (so : Spellable k messages
 
 module _ {k : ℕ} (some : 0 < k) (messages : List ℕ) where
   -- messages that fail a test are those of no table
-  pub no_table : {size : ℕ} → size ≡ joined k messages % 65536 → (Spellable k messages size → ⊥) → (T : List ℕ) → TableOf k messages T → ⊥
+  pub no_table : {size : ℕ} → size ≡ joined k messages % 65536 → (Spellable k messages size → ⊥) → NoTable k messages
   no_table told fails T so =
       let found = table_spellable some so in
       fails (subst (Spellable k messages) (found.told ∙ sym told) found)
 
-  pub too_wide : (i : ℕ) × (i < length messages) × (2 ^ k ≤ get_or messages i 0) → (T : List ℕ) → TableOf k messages T → ⊥
-  too_wide (i, l, wide) T so = omega (arith, (table_spellable some so).below i l)
+  pub too_wide : ¬ (Below k messages) → NoTable k messages
+  too_wide wide T so = wide (table_spellable some so).below
 
   -- the filling is in the last message
-  pub last_filling : (size : ℕ) → Below k messages → length messages ≡ messages_for k size → joined k messages / 2 ^ (8 * (size + 2)) ≡ get_or messages (length messages - 1) 0 / 2 ^ ((8 * (size + 2) - 1) % k + 1)
+  pub last_filling : (size : ℕ) → Below k messages → length messages ≡ messages_for k size → past_end k messages size ≡ get_or messages (length messages - 1) 0 / 2 ^ ((8 * (size + 2) - 1) % k + 1)
   last_filling size below count =
       let v = joined k messages in
       let i = length messages - 1 in
@@ -142,7 +144,7 @@ module _ {k : ℕ} (some : 0 < k) (messages : List ℕ) where
       let rest : drop i messages ≡ get_or messages i 0 ∷ [] =
       drop_more messages i 0 within ∙ ap (λ (xs : List ℕ). get_or messages i 0 ∷ xs) (drop_all (i + 1) messages (omega arith)) in
       let last : v / 2 ^ (i * k) ≡ get_or messages i 0 =
-      joined_drop k messages i ∙ ap (joined k) rest ∙ omega (arith, mod-eq_of_lt (below i within), mul-zero (2 ^ k)) in
+      joined_drop k messages i ∙ ap (joined k) rest ∙ omega (arith, mod-eq_of_lt (below i 0 within), mul-zero (2 ^ k)) in
       ap (λ (x : ℕ). v / 2 ^ x) whole ∙ sym (shr-shr v (i * k) used) ∙ ap (λ (x : ℕ). x / 2 ^ used) last
 
 -- a number has nothing above so many bits exactly if it fits in them
@@ -157,28 +159,25 @@ spellable_sized {k} {messages} {size} some so = record {
   only = λ T p. (table_spellable some p).told ∙ sym so.told;
 }
 
+-- a size is that of the table, if the messages pass the last test, and else no table has them
+pub sized_if_filled : {k : ℕ} (messages : List ℕ) (size : ℕ) → 0 < k → Below k messages → size ≡ joined k messages % 65536 → length messages ≡ messages_for k size → (filled : Bool) → MatchBool filled (past_end k messages size ≡ 0) (0 < past_end k messages size) → MatchOption (then_some filled size) (NoTable k messages) (Sized k messages)
+sized_if_filled messages size some below told count true filling =
+    spellable_sized some (record { below = below; told = told; count = count; filling = filling })
+sized_if_filled messages size some below told count false over =
+    no_table some messages told (λ so. omega (arith, so.filling))
+
 -- ---- the bytes written
 
-pub spelt_table : {k : ℕ} {messages : List ℕ} {size : ℕ} → 0 < k → Sized k messages size → (i : ℕ) (buffer after : List ℕ) → i ≡ size → after ≡ spelt (joined k messages) i ++ drop i buffer → (T : List ℕ) × TableOf k messages T × (length T ≡ size) × (after ≡ T ++ drop size buffer)
-spelt_table {k} {messages} {size} some so i buffer after end e =
-    let T = so.some.0 in
-    let table = so.some.1 in
-    let long : length T ≡ size = so.some.2 in
-    let same : spelt (joined k messages) i ≡ T = ap (spelt (joined k messages)) (end ∙ sym long) ∙ sym (table_is some table) in
-    (T, table, long, e ∙ ap (λ (xs : List ℕ). xs ++ drop i buffer) same ∙ ap (λ (x : ℕ). T ++ drop x buffer) end)
+-- the bytes that the messages spell are those of their table
+pub spelt_table : {k : ℕ} {messages table : List ℕ} {size : ℕ} → 0 < k → Sized k messages size → length table ≡ size → ((i : ℕ) → i < size → get_or table i 0 ≡ joined k messages / 2 ^ (8 * (i + 2)) % 256) → TableOf k messages table
+spelt_table {k} {messages} {table} {size} some so long bytes =
+    let v = joined k messages in
+    let spells : table ≡ spelt v size = fill_by_all (λ (i : ℕ). v / 2 ^ (8 * (i + 2)) % 256) table size 0 long bytes in
+    let same : so.some.0 ≡ table = table_is some so.some.1 ∙ ap (spelt v) so.some.2 ∙ sym spells in
+    subst (TableOf k messages) same so.some.1
 
-module _ (v : ℕ) where
-  pub bytes_left : (i : ℕ) → v / 2 ^ (8 * (i + 2)) / 2 ^ 8 ≡ v / 2 ^ (8 * (i + 1 + 2))
-  bytes_left i =
-      let e : 8 * (i + 2) + 8 ≡ 8 * (i + 1 + 2) = omega arith in
-      shr-shr v (8 * (i + 2)) 8 ∙ ap (λ (x : ℕ). v / 2 ^ x) e
-
-  pub spelt_more : (i b : ℕ) (buffer : List ℕ) → i < length buffer → b ≡ v / 2 ^ (8 * (i + 2)) % 256 → set (spelt v i ++ drop i buffer) i b ≡ spelt v (i + 1) ++ drop (i + 1) buffer
-  spelt_more i b buffer l e =
-      let byte : ℕ → ℕ = λ j. v / 2 ^ (8 * (j + 2)) % 256 in
-      let size : length (spelt v i) ≡ i = length-map-range_with_len byte 0 i in
-      ap (λ (xs : List ℕ). set (spelt v i ++ xs) i b) (drop_more buffer i 0 l)
-      ∙ set_at (spelt v i) (get_or buffer i 0) (drop (i + 1) buffer) b i size
-      ∙ ap (λ (x : ℕ). spelt v i ++ x ∷ drop (i + 1) buffer) e
-      ∙ sym (append_assoc (spelt v i) (byte i ∷ []) (drop (i + 1) buffer))
-      ∙ ap (λ (xs : List ℕ). xs ++ drop (i + 1) buffer) (sym (map-range_with_len_more byte 0 i i (omega arith)))
+-- what is left once i bytes are drawn, behind the two of the size
+pub bytes_left : (v i : ℕ) → v / 2 ^ (8 * (i + 2)) / 2 ^ 8 ≡ v / 2 ^ (8 * (i + 1 + 2))
+bytes_left v i =
+    let e : 8 * (i + 2) + 8 ≡ 8 * (i + 1 + 2) = omega arith in
+    shr-shr v (8 * (i + 2)) 8 ∙ ap (λ (x : ℕ). v / 2 ^ x) e

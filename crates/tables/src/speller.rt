@@ -1,173 +1,87 @@
 //! Spells out the table that a list of messages holds.
-ghost use Rattle.std.specs.Prelude.{◌≡◌, ℕ, ◌+◌, ◌-◌, ◌*◌, ◌/◌, ◌%◌, ◌^◌, ◌<◌, ◌≤◌, ◌⊎◌, List, ◌++◌, length, drop, MatchBool, MatchOption, ◌≢◌, slice_index};
-ghost use Rattle.tables.specs.Feed.{InHand, joined, left, Below, Sized};
+ghost use Rattle.std.specs.Prelude.{◌≡◌, ◌/◌, ◌%◌, ◌<◌, length, MatchBool, MatchOption};
+ghost use Rattle.tables.specs.Feed.{supply, joined, past_end, Below, NoTable, Sized};
 ghost use Rattle.tables.specs.Speller.{TableOf, Spelled, OneSpelling};
 ghost use Rattle.tables.specs.Stream.{messages_for};
 
 use crate::feed::Feed;
-use crate::stream::count_messages;
+use crate::stream::Width;
 use codes::fault::{Cause, Fault};
 use codes::interface::{Code, fits_in};
 
-/// A table on its way in: the next message, and the bits in hand.
+/// Messages of at most `width` bits each.
 #[derive(Clone, Copy)]
-struct Incoming {
-    next: usize,
-    feed: Feed,
+struct Messages<'a> {
+    list: &'a [u64],
+    width: Width,
+    ghost below: { Below width.bits list.now },
 }
 
-/// A byte of the stream, and what comes after it.
-#[derive(Clone, Copy)]
-struct Drawn {
-    byte: u8,
-    rest: Incoming,
+/// The size that the first two bytes of a stream tell, and the bytes after them.
+#[derive(Drop)]
+struct Header<'a> {
+    size: u16,
+    bytes: Feed<'a, u64>,
 }
 
-/// The size that the first two bytes tell, and what comes after them.
-#[derive(Clone, Copy)]
-struct Header {
-    size: usize,
-    rest: Incoming,
-}
-
-/// Whether each message has at most `width` bits.
-fn all_fit(messages: &[u64], width: u32) -> bool
-    ensures { MatchBool result (Below width messages.now) ((i : ℕ) × (i < length messages.now) × (2 ^ width ≤ slice_index messages.now i)) }
-{
-    for message in messages {
-        if !fits_in(*message, width) {
-            return false;
+impl<'a> Messages<'a> {
+    /// The messages, or `None` where one is too wide to be a table's.
+    #[tactic(auto, using(crate::proofs::Spelling::too_wide))]
+    fn fitting(list: &'a [u64], width: Width) -> Option<Messages<'a>>
+        ensures { MatchOption result (NoTable width.bits list.now) (λ messages. (messages.list.now ≡ list.now) × (messages.width ≡ width)) }
+    {
+        // `then_some` would make the value before it is known that each message fits.
+        if list.iter().all(|message| fits_in(*message, width.bits)) {
+            Some(Messages { list, width })
+        } else {
+            None
         }
     }
-    true
-}
 
-/// Takes in messages until a byte is in hand, or there are no more.
-fn fill(messages: &[u64], incoming: Incoming, width: u32) -> Incoming
-    requires wide { width ≤ 42 }
-    requires below { Below width messages.now }
-    requires ready { InHand incoming.feed }
-    ensures ready { InHand result.feed }
-    ensures same { left width messages.now result.next result.feed ≡ left width messages.now incoming.next incoming.feed }
-    ensures enough { (8 ≤ result.feed.bits) ⊎ (length messages.now ≤ result.next) }
-{
-    let mut next = incoming.next;
-    let mut feed = incoming.feed;
-    while feed.bits < 8 && next < messages.len() {
-        feed = feed.take_in(messages[next], width);
-        next += 1;
+    /// Reads the size.
+    fn header(&self) -> Header<'a>
+        ensures size { result.size ≡ joined self.now.width.bits self.now.list.now % 65536 }
+        ensures bytes { result.bytes ≡ supply (joined self.now.width.bits self.now.list.now / 65536) self.now.width.bits }
+    {
+        let mut stream = Feed::new(self.list, self.width.bits, 0, 0);
+        let size = stream.draw(u16::BITS) as u16;
+        Header {
+            size,
+            bytes: stream,
+        }
     }
-    Incoming { next, feed }
-}
 
-/// The next byte of the stream. Past the last message its bits are 0.
-fn draw(messages: &[u64], incoming: Incoming, width: u32) -> Drawn
-    requires wide { width ≤ 42 }
-    requires below { Below width messages.now }
-    requires ready { InHand incoming.feed }
-    ensures ready { InHand result.rest.feed }
-    ensures byte { result.byte ≡ left width messages.now incoming.next incoming.feed % 2 ^ 8 }
-    ensures rest { left width messages.now result.rest.next result.rest.feed ≡ left width messages.now incoming.next incoming.feed / 2 ^ 8 }
-{
-    let full = fill(messages, incoming, width);
-    Drawn {
-        byte: full.feed.lowest_byte(),
-        rest: Incoming {
-            next: full.next,
-            feed: full.feed.above(8),
-        },
+    /// Whether the bits past the end of the stream are 0. All of them are in the last message.
+    #[tactic(auto, using(crate::proofs::Spelling::last_filling, crate::proofs::Spelling::when_nothing_above))]
+    fn is_filled(&self, size: u16) -> bool
+        requires { length self.now.list.now ≡ messages_for self.now.width.bits size }
+        ensures { MatchBool result (past_end self.now.width.bits self.now.list.now size ≡ 0) (0 < past_end self.now.width.bits self.now.list.now size) }
+    {
+        let used = self.width.bits_in_last(size);
+        self.list.last().is_some_and(|last| fits_in(*last, used))
     }
-}
 
-/// The number of two bytes, the lower one first.
-fn two_bytes(low: u8, high: u8) -> usize
-    ensures { result ≡ low + 256 * high }
-{
-    low as usize + 256 * high as usize
-}
-
-/// Reads the size.
-fn read_size(messages: &[u64], width: u32) -> Header
-    requires wide { width ≤ 42 }
-    requires below { Below width messages.now }
-    ensures ready { InHand result.rest.feed }
-    ensures size { result.size ≡ joined width messages.now % 65536 }
-    ensures rest { left width messages.now result.rest.next result.rest.feed ≡ joined width messages.now / 65536 }
-{
-    let start = Incoming {
-        next: 0,
-        feed: Feed::empty(),
-    };
-    let low = draw(messages, start, width);
-    let high = draw(messages, low.rest, width);
-    Header {
-        size: two_bytes(low.byte, high.byte),
-        rest: high.rest,
+    /// The size of the table that has these messages, or `None` where no table has them.
+    #[tactic(auto, using(crate::proofs::Spelling::sized_if_filled, crate::proofs::Spelling::no_table))]
+    fn table_size(&self) -> Option<u16>
+        ensures { MatchOption result (NoTable self.now.width.bits self.now.list.now) (Sized self.now.width.bits self.now.list.now) }
+    {
+        let size = self.header().size;
+        if self.list.len() != self.width.messages_for(size) {
+            return None;
+        }
+        self.is_filled(size).then_some(size)
     }
-}
 
-/// How many bits of the stream are in the last message.
-fn bits_in_last(size: usize, width: u32) -> u32
-    requires some { 0 < width }
-    requires short { size < 65536 }
-    ensures { result ≡ (8 * (size + 2) - 1) % width + 1 }
-{
-    (8 * (size as u32 + 2) - 1) % width + 1
-}
-
-/// Whether the bits past the end of the stream are 0. All of them are in the last message.
-fn is_filled(messages: &[u64], width: u32, size: usize) -> bool
-    requires some { 0 < width }
-    requires short { size < 65536 }
-    requires below { Below width messages.now }
-    requires count { length messages.now ≡ messages_for width size }
-    ensures { MatchBool result (joined width messages.now / 2 ^ (8 * (size + 2)) ≡ 0) (0 < joined width messages.now / 2 ^ (8 * (size + 2))) }
-{
-    fits_in(messages[messages.len() - 1], bits_in_last(size, width))
-}
-
-/// Whether a table of this size takes so many messages.
-fn takes(size: usize, width: u32, count: usize) -> bool
-    requires some { 0 < width }
-    requires short { size < 65536 }
-    ensures { MatchBool result (count ≡ messages_for width size) (count ≢ messages_for width size) }
-{
-    count == count_messages(size, width)
-}
-
-/// The size of the table that has these messages, or `None` where no table has them.
-fn table_size(messages: &[u64], width: u32) -> Option<usize>
-    requires some { 0 < width }
-    requires wide { width ≤ 42 }
-    ensures { MatchOption result ((T : List ℕ) → TableOf width messages.now T → ⊥) (Sized width messages.now) }
-{
-    if !all_fit(messages, width) {
-        return None;
-    }
-    let size = read_size(messages, width).size;
-    if !takes(size, width, messages.len()) {
-        return None;
-    }
-    if is_filled(messages, width, size) {
-        Some(size)
-    } else {
-        None
-    }
-}
-
-/// Writes the bytes of the table.
-fn write_table(messages: &[u64], width: u32, size: usize, buffer: &mut [u8])
-    requires wide { width ≤ 42 }
-    requires some { 0 < width }
-    requires sized { Sized width messages.now size }
-    requires room { size ≤ length buffer.old }
-    ensures { (T : List ℕ) × TableOf width messages.now T × (length T ≡ size) × (buffer.new ≡ T ++ drop size buffer.old) }
-{
-    let mut incoming = read_size(messages, width).rest;
-    for i in 0..size {
-        let drawn = draw(messages, incoming, width);
-        buffer[i] = drawn.byte;
-        incoming = drawn.rest;
+    /// Writes the bytes of the table.
+    fn write(&self, table: &mut [u8])
+        requires { Sized self.now.width.bits self.now.list.now (length table.old) }
+        ensures { TableOf self.now.width.bits self.now.list.now table.new }
+    {
+        let mut bytes = self.header().bytes;
+        for byte in table.iter_mut() {
+            *byte = bytes.draw(u8::BITS) as u8;
+        }
     }
 }
 
@@ -182,16 +96,13 @@ pub fn spell<C: Code>(code: &C, messages: &[u64], buffer: &mut [u8]) -> Result<u
     ensures one { OneSpelling }
 {
     one_spelling();
-    let width = code.shape()?.message_bits;
-    if width == 0 {
-        return Err(Fault::new(Cause::NoMessageBits));
-    }
-    let Some(size) = table_size(messages, width) else {
-        return Err(Fault::new(Cause::NotATable));
-    };
+    let width = Width::of(code)?;
+    let not_a_table = Fault::new(Cause::NotATable);
+    let messages = Messages::fitting(messages, width).ok_or(not_a_table)?;
+    let size = usize::from(messages.table_size().ok_or(not_a_table)?);
     if buffer.len() < size {
         return Err(Fault::new(Cause::TooShort));
     }
-    write_table(messages, width, size, buffer);
+    messages.write(&mut buffer[..size]);
     Ok(size)
 }

@@ -1,16 +1,15 @@
 use Rattle.std.proofs.Common.{arith}
-use Rattle.tables.proofs.Sending.{written_next, next_message, remaining_less}
+use Rattle.std.proofs.lemmas.Grind.{common_steps}
+use Rattle.tables.proofs.Sending.{next_message, remaining_less}
 use Rattle.tables.proofs.sender.write_words.Goals as goal
 
-pub loop-i-preserved : goal.loop-i-preserved
-loop-i-preserved g c =
-    let turn = c.loop-i in
-    let k = c.args.width in
+pub loop-word-preserved : goal.loop-word-preserved
+loop-word-preserved g c =
+    let turn = c.loop-word in
+    let k = c.args.width.bits in
     let table = c.args.table.now in
-    let f = turn.outgoing.feed in
-    let drawn = c.draw-drawn in (
-      written_next turn.invariant.0 k drawn.result.message c.codeword.result (omega arith) c.requires.width
-          (next_message k table turn.i turn.outgoing.next f turn.invariant.1 drawn.result.message drawn.ensures.message) c.codeword.ensures,
-      remaining_less k table turn.i turn.outgoing.next f turn.invariant.1 drawn.result.rest.next drawn.result.rest.feed drawn.ensures.rest,
-      drawn.ensures.ready,
+    let drawn = c.draw.ensures in (
+      remaining_less k table turn.word-index turn.messages turn.invariant.0 c.draw.new.self drawn.rest,
+      (let message = next_message k table turn.word-index turn.messages turn.invariant.0 c.draw.result drawn.number in
+          let carries = c.codeword.ensures in λ i l. grind (arith, common_steps, turn.invariant.1 i)),
     )

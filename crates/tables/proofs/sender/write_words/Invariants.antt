@@ -1,10 +1,11 @@
-use Rattle.tables.specs.Feed.{InHand}
-use Rattle.tables.proofs.Sending.{Written, Remaining}
+use Rattle.std.proofs.Common.{ℕ, ◌<◌, slice_index}
+use Rattle.codes.specs.Meaning.{Carries}
+use Rattle.tables.specs.Stream.{message_at}
+use Rattle.tables.proofs.Sending.{Remaining}
 use Rattle.tables.proofs.sender.write_words.Given as goal
 
-abbrev pub invariant-loop-i : goal.invariant-loop-i
-invariant-loop-i g l =
-    let code = g.C.Code in
-    Written (code.means l.code) l.table l.initial.words l.words l.i
-    × Remaining l.width l.table l.i l.outgoing.next l.outgoing.feed
-    × InHand l.outgoing.feed
+abbrev pub invariant-loop-word : goal.invariant-loop-word
+invariant-loop-word g l =
+    let width = l.width.bits in
+    Remaining width l.table l.word-index l.messages
+    × ((i : ℕ) → i < l.word-index → Carries (g.C.Code.means l.code) (message_at width l.table i) (slice_index l.words i))
