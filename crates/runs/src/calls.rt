@@ -54,13 +54,6 @@ pub struct Comparison<C, D> {
     pub equal: bool,
 }
 
-/// Whether two receivers have equal reports, whatever their codes.
-fn equal_reports<C: Code, D: Code>(one: &Receiver<C>, other: &Receiver<D>) -> bool
-    ensures { MatchBool result (places_of one.now.report ≡ places_of other.now.report) (places_of one.now.report ≢ places_of other.now.report) }
-{
-    one.report().same(other.report())
-}
-
 /// Runs each list of calls on a new receiver of its own, and compares the reports.
 pub fn compare<C: Code, D: Code>(
     one: C,
@@ -74,7 +67,7 @@ pub fn compare<C: Code, D: Code>(
 {
     let first = replay(one, calls);
     let second = replay(other, others);
-    let equal = equal_reports(&first, &second);
+    let equal = first.report().same(second.report());
     Comparison {
         first,
         second,

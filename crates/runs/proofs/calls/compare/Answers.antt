@@ -11,5 +11,5 @@ returns g c =
           runs_from (g.met.C.Code.lawful c.args.one) _ c.args.calls.now c.args.others.now (places_of one) (flips_of one) (places_of other)
           (flips_of other) c.replay-first.ensures.places c.replay-second.ensures.places;
       codes = (c.replay-first.ensures.holds, c.replay-second.ensures.holds);
-      verdict = c.equal_reports-equal.ensures;
+      verdict = rw (c.report.ensures, c.report-2.ensures) at c.same-equal.ensures;
     }

@@ -3,8 +3,8 @@ use Rattle.runs.proofs.law.carry_both.Goals as goal
 
 pub returns : goal.returns
 returns g c =
-    let one = c.carry_trip-one in
-    let two = c.carry_trip-two in
+    let one = c.carry in
+    let two = c.carry-2 in
     record {
       first = one.ensures.carried;
       second = two.ensures.carried;
