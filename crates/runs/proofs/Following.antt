@@ -3,7 +3,7 @@ use Rattle.std.proofs.Common.{◌≡◌, ℕ, suc, ◌+◌, ◌^◌, ◌<◌, �
 use lib.Count.{ones}
 use Rattle.std.specs.List.{slice_get}
 use Rattle.std.proofs.lemmas.List.{length_push, length-set, get_or_append_left, get_or_push, get_or-set_same, get_or-set_other, take_more, take_all}
-use Rattle.std.proofs.lemmas.Option.{slice_get-get_or, slice_get_past}
+use Rattle.std.proofs.lemmas.Option.{slice_get-get_or, slice_get_within}
 use Rattle.std.proofs.lemmas.List.Sums.{sum_by-cons}
 use Rattle.std.proofs.lemmas.Bool.{and_from, and_left, and_right, cases_Bool, cases_lt, cases_eq, cond-true, cond-false, not_from_true, not_from_false, lt-ltb, le-ltb}
 use Rattle.codes.specs.declared.fault.Fault.{Fault}
@@ -105,8 +105,7 @@ module _ {m : Meaning} (law : Lawful m) {ws : List ℕ} {ps : List Place} {fs : 
 
   gap_open : slice_get ps p ≡ Some Gap → (p < length ws) × (open_place ≡ true)
   gap_open e =
-      let low : p < length ps =
-      ⊎_elim (λ l. l) (λ l. let z : ◌≡◌ {A = ℕ} 0 1 = cc (e, slice_get_past ps p l) in absurd (omega arith)) (cases_lt p (length ps)) in
+      let low : p < length ps = slice_get_within ps p Gap e in
       let low' : p < length ws = omega (arith, kept.count) in
       let gap : get_or ps p Gap ≡ Gap = cc (slice_get-get_or ps p Gap low) in
       let far = subst (λ (x : Place). Demands m (get_or ws p 0) x (get_or fs p 0)) gap (kept.each p low') in (

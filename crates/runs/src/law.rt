@@ -23,14 +23,6 @@ pub struct Trip<'a, C> {
     pub patterns: &'a [u64],
 }
 
-/// What came of two runs and two trips.
-#[derive(Drop)]
-pub struct Judgement<C, D> {
-    pub runs: Comparison<C, D>,
-    pub first: Result<usize, Fault>,
-    pub second: Result<usize, Fault>,
-}
-
 impl<C: Code + Drop> Trip<'_, C> {
     /// Carries the table over its code.
     fn carry(self, buffer: &mut [u8]) -> Result<usize, Fault>
@@ -41,7 +33,16 @@ impl<C: Code + Drop> Trip<'_, C> {
     }
 }
 
+/// What came of two runs and two trips.
+#[derive(Drop)]
+pub struct Judgement<C, D> {
+    pub runs: Comparison<C, D>,
+    pub first: Result<usize, Fault>,
+    pub second: Result<usize, Fault>,
+}
+
 /// Carries two tables, each over its own code and into its own buffer.
+// Each buffer stands beside its trip, so that the clauses name what it held and what it holds now.
 pub fn carry_both<E: Code + Drop, F: Code + Drop>(
     first: Trip<'_, E>,
     buffer: &mut [u8],

@@ -45,6 +45,7 @@ pub fn carry<C: Code + Drop>(
     ensures carried { Carried (C.means code) table.now patterns.now buffer.old result buffer.new }
     ensures arrives { Arrives (C.means code) table.now patterns.now buffer.old result buffer.new }
 {
+    // No heap: the words are written into an array, and their count is the answer.
     let mut words = [0; ROOM];
     let count = send(&code, table, &mut words)?;
     let mut receiver = Receiver::new(code);
