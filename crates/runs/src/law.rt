@@ -43,6 +43,7 @@ pub struct Judgement<C, D> {
 
 /// Carries two tables, each over its own code and into its own buffer.
 // Each buffer stands beside its trip, so that the clauses name what it held and what it holds now.
+#[tactic(auto, using(crate::proofs::Carrying::carriages_from))]
 pub fn carry_both<E: Code + Drop, F: Code + Drop>(
     first: Trip<'_, E>,
     buffer: &mut [u8],
