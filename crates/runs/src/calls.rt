@@ -34,6 +34,7 @@ fn make<C: Code>(receiver: &mut Receiver<C>, call: Call)
 }
 
 /// A new receiver over the code, after the calls in their order.
+#[tactic(auto, using(crate::proofs::Following::demanded_none, crate::proofs::Following::run_all, crate::proofs::Following::tallied))]
 pub fn replay<C: Code>(code: C, calls: &[Call]) -> Receiver<C>
     ensures holds { result.code ≡ code }
     ensures places { Demanded (C.means code) (book (C.means code) calls.now) (places_of result.report) (flips_of result.report) }

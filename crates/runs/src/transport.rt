@@ -20,6 +20,7 @@ fn pattern_at(patterns: &[u64], i: usize) -> u64
 }
 
 /// Offers the words in order, each with its bits turned over, and stops at the first that is refused.
+#[tactic(auto, using(crate::proofs::Carrying::arriving_none))]
 fn offer_all<C: Code>(
     receiver: &mut Receiver<C>,
     words: &[u64],
