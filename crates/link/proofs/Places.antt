@@ -1,7 +1,16 @@
 -- The places of a report, from what it heard.
-use Rattle.std.proofs.Common.{◌≡◌, Bool, true, false, List, [], ◌∷◌, map, MatchBool, sym, refl}
+use Rattle.std.proofs.Common.{◌≡◌, ℕ, Bool, true, false, List, [], ◌∷◌, map, length, set, MatchBool, sym, refl, ap, ◌∙◌, length-set}
 use Rattle.std.proofs.lemmas.Bool.{and_from, and_parts}
+use Rattle.std.proofs.lemmas.List.{map-set}
 use Rattle.std.specs.Cmp.Lexicographic.{pointwise}
+use Rattle.std.specs.List.{refill}
+use Rattle.arrayvec.proofs.ArrayVecLemmas.{items-with_items}
+
+-- what `f` reads of the elements, after one was written through a slice that shows them all
+pub read_written : {H X : Type 0} (f : H → X) (xs ys : List H) (i : ℕ) (h : H) → xs ≡ ys → map f (refill (length ys) ys (set xs i h)) ≡ set (map f ys) i (f h)
+read_written {H} f xs ys i h e =
+    ap (map f) (items-with_items (record { items = ys }) (set xs i h) (length-set xs i h ∙ ap length e)) ∙ map-set f xs i h
+    ∙ ap (λ (zs : List H). set (map f zs) i (f h)) e
 
 -- a test of two lists, where the test of two elements decides whether `f` reads the same of both
 module _ {H P : Type 0} (f : H → P) {E : H → H → Bool} (decides : (a b : H) → (E a b ≡ true → f a ≡ f b) × (f a ≡ f b → E a b ≡ true)) where

@@ -66,11 +66,13 @@ fn answer_at<C: Code>(code: &C, word: u64, place: usize) -> Result<Answer, Fault
 }
 
 /// A lawful code leaves an offer one answer and one list of places. It does nothing but say so.
+#[tactic(auto, using(crate::proofs::Transitions::one_offer))]
 fn one_offer()
     ensures { OneOffer }
 {}
 
 /// The same of a repeat.
+#[tactic(auto, using(crate::proofs::Transitions::one_repeat))]
 fn one_repeat()
     ensures { OneRepeat }
 {}

@@ -95,6 +95,7 @@ impl Report {
     }
 
     /// Puts another place where one is.
+    #[tactic(auto, using(crate::proofs::Places::read_written))]
     pub(crate) fn replace(&mut self, at: usize, heard: Heard)
         requires { at < length (places_of self.old) }
         ensures places { places_of self.new ≡ slice_set (places_of self.old) at heard.place }
@@ -152,6 +153,7 @@ impl Report {
     }
 
     /// Whether both have the same places: as many, and the same message or gap at each. Flips are not compared.
+    #[tactic(auto, using(crate::proofs::Places::maps_compared))]
     pub fn same(&self, other: &Report) -> bool
         ensures { MatchBool result (places_of self.now ≡ places_of other.now) (places_of self.now ≢ places_of other.now) }
     {

@@ -62,6 +62,7 @@ impl<C: Code + Drop> Sealed<C> {
 }
 
 /// A lawful code leaves spelling one answer and one buffer. It does nothing but say so.
+#[tactic(auto, using(crate::proofs::SpellingPlaces::one_spell))]
 fn one_spell()
     ensures { OneSpell }
 {}
