@@ -40,6 +40,7 @@ impl<C: Code + Drop> Sealed<C> {
     }
 
     /// Writes the table whose messages the places hold, and answers how many bytes. A refusal leaves the buffer as it was.
+    #[tactic(auto, using(crate::proofs::SpellingPlaces::spelled_places))]
     pub fn spell(&self, buffer: &mut [u8]) -> Result<usize, Fault>
         ensures spells { Spells (C.means self.now.code) (places_of self.now.report) buffer.old result buffer.new }
         ensures one { OneSpell }
