@@ -1,9 +1,13 @@
 -- The places of a report, from what it heard.
-use Rattle.std.proofs.Common.{◌≡◌, ℕ, Bool, true, false, List, [], ◌∷◌, map, length, set, MatchBool, sym, refl, ap, ◌∙◌, length-set}
+use Rattle.std.proofs.Common.{◌≡◌, ℕ, zero, suc, ◌+◌, ◌<◌, Bool, true, false, List, [], ◌∷◌, ◌++◌, map, length, get_or, take, set, MatchBool, sym, refl, ap, ◌∙◌, length-set, le_of_suc-le-suc, arith}
 use Rattle.std.proofs.lemmas.Bool.{and_from, and_parts}
-use Rattle.std.proofs.lemmas.List.{map-set}
+use Rattle.std.proofs.lemmas.List.{length-map, map-append, map-set, map_more, take-map}
 use Rattle.std.specs.Cmp.Lexicographic.{pointwise}
 use Rattle.std.specs.List.{refill}
+use Rattle.link.specs.declared.report.Heard.{Heard}
+use Rattle.link.specs.declared.report.Place.{Place}
+use Rattle.link.specs.declared.report.Place.TheVariants.{Settled, Gap}
+use Rattle.link.specs.Sealed.{first_gap}
 use Rattle.arrayvec.proofs.ArrayVecLemmas.{items-with_items}
 
 -- what `f` reads of the elements, after one was written through a slice that shows them all
@@ -30,3 +34,28 @@ module _ {H P : Type 0} (f : H → P) {E : H → H → Bool} (decides : (a b : H
   pub maps_compared : (xs ys : List H) (r : Bool) → r ≡ pointwise E xs ys → MatchBool r (map f xs ≡ map f ys) (map f xs ≡ map f ys → ⊥)
   maps_compared xs ys true h = read_same xs ys (sym h)
   maps_compared xs ys false h = λ e. cc (h, same_read xs ys e)
+
+-- ---- the places of what was heard, one after the other
+
+abbrev place : Heard → Place
+place h = h.place
+
+first_gap_after : (hs : List Heard) (xs : List ℕ) (i : ℕ) (d : Heard) → i < length hs → take i (map place hs) ≡ map Settled xs → (get_or hs i d).place ≡ Gap → first_gap (map place hs) ≡ i
+first_gap_after [] xs i d l c g = absurd (omega arith)
+first_gap_after (h ∷ hs) xs zero d l c g = rw g refl
+first_gap_after (h ∷ hs) [] (suc i) d l c g = cc
+first_gap_after (h ∷ hs) (x ∷ xs) (suc i) d l c g =
+    let settled : h.place ≡ Settled x = cc in
+    let tail : take i (map place hs) ≡ map Settled xs = cc in rw settled (ap suc (first_gap_after hs xs i d (le_of_suc-le-suc l) tail g))
+
+module _ (shown hs : List Heard) (xs : List ℕ) (i : ℕ) (d : Heard) (all : shown ≡ hs) (within : i < length shown) (before : take i (map place hs) ≡ map Settled xs) where
+  -- a gap after settled places is the first
+  pub gap_is_first : (get_or shown i d).place ≡ Gap → (first_gap (map place hs) ≡ i) × (i < length (map place hs))
+  gap_is_first g = rw (← all) (first_gap_after shown xs i d within (rw (sym all) at before) g, omega (arith, length-map shown place))
+
+  -- and a settled place adds its message
+  pub settled_more : (v : ℕ) → (get_or shown i d).place ≡ Settled v → take (i + 1) (map place hs) ≡ map Settled (xs ++ v ∷ [])
+  settled_more v e =
+      rw (← all)
+      (take-map place (i + 1) shown ∙ map_more place shown i d within ∙ ap (λ (p : Place). map place (take i shown) ++ p ∷ []) e
+      ∙ ap (λ (qs : List Place). qs ++ Settled v ∷ []) (sym (take-map place i shown) ∙ rw (sym all) at before) ∙ sym (map-append Settled xs (v ∷ [])))

@@ -1,6 +1,5 @@
 -- Spelling the places of a report, from spelling their messages.
-use Rattle.std.proofs.Common.{◌≡◌, ℕ, zero, suc, ◌+◌, ◌<◌, ◌⊎◌, List, [], ◌∷◌, ◌++◌, map, length, get_or, take, drop, Ok, Err, Result, sym, refl, ap, ◌∙◌, subst, inl, inr, ⊎_elim, suc-le-suc, le_of_suc-le-suc, zero-lt-suc, arith}
-use Rattle.std.proofs.lemmas.List.{take_more, map-append}
+use Rattle.std.proofs.Common.{◌≡◌, ℕ, suc, ◌<◌, ◌⊎◌, List, [], ◌∷◌, ◌++◌, map, length, drop, Ok, Err, Result, sym, refl, ap, ◌∙◌, subst, inl, inr, ⊎_elim, suc-le-suc, zero-lt-suc, arith}
 use Rattle.codes.specs.declared.fault.Cause.TheVariants.{GapInReport}
 use Rattle.codes.specs.declared.fault.Fault.{Fault}
 use Rattle.codes.specs.Interface.{in_service}
@@ -27,21 +26,6 @@ settled_same (a ∷ xs) (b ∷ bs) e =
 pub settled_no_gap : (xs : List ℕ) → first_gap (map Settled xs) ≡ length (map Settled xs)
 settled_no_gap [] = refl
 settled_no_gap (a ∷ xs) = ap suc (settled_no_gap xs)
-
--- a gap after settled places is the first
-pub first_gap_after : (ps : List Place) (xs : List ℕ) (i : ℕ) (d : Place) → i < length ps → take i ps ≡ map Settled xs → get_or ps i d ≡ Gap → first_gap ps ≡ i
-first_gap_after [] xs i d l c g = absurd (omega arith)
-first_gap_after (Gap ∷ ps) xs zero d l c g = refl
-first_gap_after (Settled a ∷ ps) xs zero d l c g = cc
-first_gap_after (p ∷ ps) [] (suc i) d l c g = cc
-first_gap_after (Gap ∷ ps) (x ∷ xs) (suc i) d l c g = cc
-first_gap_after (Settled a ∷ ps) (x ∷ xs) (suc i) d l c g =
-    let tail : take i ps ≡ map Settled xs = cc in ap suc (first_gap_after ps xs i d (le_of_suc-le-suc l) tail g)
-
--- one more settled place
-pub settled_more : (ps : List Place) (xs : List ℕ) (i v : ℕ) (d : Place) → i < length ps → take i ps ≡ map Settled xs → get_or ps i d ≡ Settled v → take (i + 1) ps ≡ map Settled (xs ++ v ∷ [])
-settled_more ps xs i v d l c e =
-    take_more ps i d l ∙ ap (λ (p : Place). take i ps ++ p ∷ []) e ∙ ap (λ (qs : List Place). qs ++ Settled v ∷ []) c ∙ sym (map-append Settled xs (v ∷ []))
 
 -- ---- from messages to places
 
