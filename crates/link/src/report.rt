@@ -1,11 +1,6 @@
 //! The report of a receiver: at most 256 places, each settled or a gap.
-ghost use Rattle.std.specs.Prelude.{◌≡◌, ◌<◌, ◌≤◌, [], ◌∷◌, ◌++◌, map, length, Some, MatchBool, sum, MatchResult, ◌≢◌, slice_set};
-ghost use Rattle.std.specs.List.{slice_get};
-ghost use Rattle.codes.specs.Fault.{fault};
-ghost use Rattle.codes.specs.declared.fault.Cause.TheVariants.{GapInReport};
-ghost use Rattle.link.specs.declared.report.Place.TheVariants.{Settled, Gap};
-ghost use Rattle.link.specs.Sealed.{first_gap};
-ghost use Rattle.link.specs.Report.{places_of, flips_of, is_settled, settled_in};
+ghost use Rattle.std.specs.Prelude.{◌≡◌, ◌≤◌};
+ghost use Rattle.arrayvec.specs.ArrayVec.{array_vec_len};
 
 use arrayvec::ArrayVec;
 use codes::fault::{Cause, Fault, Layer};
@@ -20,6 +15,8 @@ pub enum Place {
 }
 
 impl Place {
+    ghost use Rattle.link.specs.Report.{is_settled};
+
     /// Whether a word settled the place.
     fn is_settled(self) -> bool
         ensures { result ≡ is_settled self }
@@ -44,9 +41,18 @@ const ROOM: usize = 256;
 #[derive(PartialEq, Eq, Drop)]
 pub struct Report {
     heard: ArrayVec<Heard, ROOM>,
+    ghost few: { array_vec_len heard ≤ 256 },
 }
 
 impl Report {
+    ghost use Rattle.std.specs.Prelude.{◌<◌, [], ◌∷◌, ◌++◌, map, length, Some, MatchBool, sum, MatchResult, ◌≢◌, slice_set};
+    ghost use Rattle.std.specs.List.{slice_get};
+    ghost use Rattle.codes.specs.Fault.{fault};
+    ghost use Rattle.codes.specs.declared.fault.Cause.TheVariants.{GapInReport};
+    ghost use Rattle.link.specs.declared.report.Place.TheVariants.{Settled, Gap};
+    ghost use Rattle.link.specs.Sealed.{first_gap};
+    ghost use Rattle.link.specs.Report.{places_of, flips_of, settled_in};
+
     /// A report with no place.
     pub(crate) fn new() -> Report
         ensures places { places_of result ≡ [] }
@@ -68,7 +74,7 @@ impl Report {
     pub fn place(&self, at: usize) -> Option<Place>
         ensures { result ≡ slice_get (places_of self.now) at }
     {
-        self.heard.as_slice().get(at).map(|heard| heard.place)
+        self.heard.get(at).map(|heard| heard.place)
     }
 
     /// Whether there is no room for another place.
@@ -101,7 +107,7 @@ impl Report {
         ensures places { places_of self.new ≡ slice_set (places_of self.old) at heard.place }
         ensures flips { flips_of self.new ≡ slice_set (flips_of self.old) at heard.flips }
     {
-        self.heard.as_mut_slice()[at] = heard;
+        self.heard[at] = heard;
     }
 
     /// Takes every place away.
@@ -117,7 +123,7 @@ impl Report {
         ensures { MatchResult result (λ messages. places_of self.now ≡ map Settled messages.items) (λ f. (first_gap (places_of self.now) < length (places_of self.now)) × (f ≡ fault GapInReport Layer.Report (first_gap (places_of self.now)))) }
     {
         let mut messages = ArrayVec::new();
-        for (at, heard) in self.heard.as_slice().iter().enumerate() {
+        for (at, heard) in self.heard.iter().enumerate() {
             let Place::Settled(message) = heard.place else {
                 return Err(Fault {
                     place: at,
@@ -133,11 +139,7 @@ impl Report {
     pub(crate) fn settled(&self) -> u64
         ensures { (result ≡ settled_in (places_of self.now)) × (result ≤ 256) }
     {
-        let settled = self
-            .heard
-            .as_slice()
-            .iter()
-            .filter(|heard| heard.place.is_settled());
+        let settled = self.heard.iter().filter(|heard| heard.place.is_settled());
         settled.count() as u64
     }
 
@@ -145,11 +147,7 @@ impl Report {
     pub(crate) fn flips(&self) -> u32
         ensures { result ≡ sum (flips_of self.now) }
     {
-        self.heard
-            .as_slice()
-            .iter()
-            .map(|heard| u32::from(heard.flips))
-            .sum()
+        self.heard.iter().map(|heard| u32::from(heard.flips)).sum()
     }
 
     /// Whether both have the same places: as many, and the same message or gap at each. Flips are not compared.

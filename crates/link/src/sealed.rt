@@ -50,7 +50,7 @@ impl<C: Code + Drop> Sealed<C> {
             return Err(Fault::new(Cause::NoMessageBits));
         }
         let messages = self.report.messages()?;
-        spell(&self.code, messages.as_slice(), buffer)
+        spell(&self.code, &messages, buffer)
     }
 
     /// The line figure: flips in a thousand bits of the settled places.
