@@ -1,6 +1,7 @@
 -- A code that was picked keeps the laws, and a report has at most 256 places.
 use Rattle.std.specs.Prelude.{◌≤◌, length}
-use Rattle.std.proofs.Common.{arith, length-map}
+use Rattle.std.proofs.Common.{arith}
+use Rattle.std.proofs.lemmas.List.{length-map}
 use Rattle.codes.specs.Meaning.{Lawful}
 use Rattle.cyclic.specs.Generator.{numbers}
 use Rattle.cyclic.specs.Codewords.{lawful}
