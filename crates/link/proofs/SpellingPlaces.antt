@@ -1,6 +1,5 @@
 -- Spelling the places of a report, from spelling their messages.
-use Rattle.std.proofs.Common.{◌≡◌, ℕ, zero, suc, ◌+◌, ◌<◌, ◌⊎◌, List, [], ◌∷◌, ◌++◌, map, length, get_or, take, drop, set, Ok, Err, Result, sym, refl, ap, ◌∙◌, subst, inl, inr, ⊎_elim, suc-le-suc, le_of_suc-le-suc, zero-lt-suc, arith}
-use Rattle.std.proofs.lemmas.List.{take_all, take_more, take_more_set, map-append}
+use Rattle.std.proofs.Common.{◌≡◌, ℕ, suc, ◌<◌, ◌⊎◌, List, [], ◌∷◌, ◌++◌, map, length, drop, Ok, Err, Result, sym, refl, ap, ◌∙◌, subst, inl, inr, ⊎_elim, suc-le-suc, zero-lt-suc, arith}
 use Rattle.codes.specs.declared.fault.Cause.TheVariants.{GapInReport}
 use Rattle.codes.specs.declared.fault.Fault.{Fault}
 use Rattle.codes.specs.Interface.{in_service}
@@ -15,14 +14,10 @@ use Rattle.link.specs.declared.report.Place.{Place}
 use Rattle.link.specs.declared.report.Place.TheVariants.{Settled, Gap}
 use Rattle.link.specs.Sealed.{first_gap, no_gap, Holds, holds_table, has_room_for, Spells, OneSpell}
 
--- the first i messages are those of the first i places
-abbrev pub Copied : ℕ → List Place → List ℕ → Type 0
-Copied i ps xs = take i ps ≡ map Settled (take i xs)
-
 pub settled_same : (xs bs : List ℕ) → map Settled xs ≡ map Settled bs → xs ≡ bs
 settled_same [] [] e = refl
-settled_same [] (b ∷ bs) e = let z : ◌≡◌ {A = ℕ} 0 1 = cc in absurd (omega arith)
-settled_same (a ∷ xs) [] e = let z : ◌≡◌ {A = ℕ} 0 1 = cc in absurd (omega arith)
+settled_same [] (b ∷ bs) e = cc
+settled_same (a ∷ xs) [] e = cc
 settled_same (a ∷ xs) (b ∷ bs) e =
     let head : a ≡ b = cc in
     let tail : map Settled xs ≡ map Settled bs = cc in
@@ -31,26 +26,6 @@ settled_same (a ∷ xs) (b ∷ bs) e =
 pub settled_no_gap : (xs : List ℕ) → first_gap (map Settled xs) ≡ length (map Settled xs)
 settled_no_gap [] = refl
 settled_no_gap (a ∷ xs) = ap suc (settled_no_gap xs)
-
--- a gap after settled places is the first
-pub gap_after : (ps : List Place) (xs : List ℕ) (i : ℕ) (d : Place) → i < length ps → Copied i ps xs → get_or ps i d ≡ Gap → first_gap ps ≡ i
-gap_after [] xs i d l c g = absurd (omega arith)
-gap_after (Gap ∷ ps) xs zero d l c g = refl
-gap_after (Settled a ∷ ps) xs zero d l c g = let z : ◌≡◌ {A = ℕ} 0 1 = cc in absurd (omega arith)
-gap_after (p ∷ ps) [] (suc i) d l c g = let z : ◌≡◌ {A = ℕ} 0 1 = cc in absurd (omega arith)
-gap_after (Gap ∷ ps) (x ∷ xs) (suc i) d l c g = let z : ◌≡◌ {A = ℕ} 0 1 = cc in absurd (omega arith)
-gap_after (Settled a ∷ ps) (x ∷ xs) (suc i) d l c g =
-    let tail : take i ps ≡ map Settled (take i xs) = cc in
-    ap suc (gap_after ps xs i d (le_of_suc-le-suc l) tail g)
-
-pub copied_more : (ps : List Place) (xs : List ℕ) (i v : ℕ) (d : Place) → i < length ps → i < length xs → Copied i ps xs → get_or ps i d ≡ Settled v → Copied (i + 1) ps (set xs i v)
-copied_more ps xs i v d l h c e =
-    take_more ps i d l ∙ ap (λ (p : Place). take i ps ++ p ∷ []) e ∙ ap (λ (qs : List Place). qs ++ Settled v ∷ []) c
-    ∙ sym (ap (map Settled) (take_more_set xs i v h) ∙ map-append Settled (take i xs) (v ∷ []))
-
-pub copied_all : (ps : List Place) (xs : List ℕ) (i : ℕ) → i ≡ length ps → Copied i ps xs → ps ≡ map Settled (take (length ps) xs)
-copied_all ps xs i e c =
-    sym (take_all (length ps) ps (omega arith)) ∙ ap (λ (j : ℕ). take j ps) (sym e) ∙ c ∙ ap (λ (j : ℕ). map Settled (take j xs)) e
 
 -- ---- from messages to places
 

@@ -19,8 +19,8 @@ room_decided : (ps : List Place) → Decided (has_room ps)
 room_decided ps = record { named = (ReportFull, refl); either = cases_lt (length ps) 256; not_both = λ p q. omega arith }
 
 gap_or_not : (o : Option Place) → (o ≡ Some Gap) ⊎ (o ≡ Some Gap → ⊥)
-gap_or_not None = inr (λ e. let z : ◌≡◌ {A = ℕ} 0 1 = cc in omega arith)
-gap_or_not (Some (Settled a)) = inr (λ e. let z : ◌≡◌ {A = ℕ} 0 1 = cc in omega arith)
+gap_or_not None = inr (λ e. cc)
+gap_or_not (Some (Settled a)) = inr (λ e. cc)
 gap_or_not (Some Gap) = inl refl
 
 gap_decided : (ps : List Place) (p : ℕ) → Decided (is_gap ps p)

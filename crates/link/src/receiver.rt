@@ -1,17 +1,17 @@
 //! A receiver: words in, places out.
 ghost use Rattle.std.specs.Prelude.{◌≡◌, [], ◌∷◌, ◌++◌, length, slice_set};
 ghost use Rattle.std.specs.List.{slice_get};
-ghost use Rattle.codes.specs.Fault.{fault};
 ghost use Rattle.link.specs.Report.{places_of, flips_of};
 ghost use Rattle.link.specs.Receiver.{Offered, Repeated, Keeps, place_by, flips_by, OneOffer, OneRepeat};
 ghost use Rattle.link.specs.Steps.{AnsweredAt};
 
-use crate::report::{Place, Report};
+use crate::report::{Heard, Place, Report};
 use crate::sealed::Sealed;
 use codes::fault::{Cause, Fault};
 use codes::interface::Code;
 
 /// The answer to a word: its place, and the message and pattern where it settled.
+// A place beside an `Option` is no plainer: it would call a gap `None`, as if there were no answer.
 #[derive(Clone, Copy, PartialEq, Eq, Debug)]
 pub enum Answer {
     Settled {
@@ -24,24 +24,21 @@ pub enum Answer {
     },
 }
 
-impl Answer {
-    /// The place that the report keeps of the answer.
-    fn kept(self) -> Place
-        ensures { result ≡ place_by self }
-    {
-        match self {
-            Answer::Settled { message, .. } => Place::Settled(message),
-            Answer::Gap { .. } => Place::Gap,
-        }
-    }
+/// What the report keeps of an answer.
+impl From<Answer> for Heard {
+    ghost from_gives = { λ answer heard. (heard.place ≡ place_by answer) × (heard.flips ≡ flips_by answer) };
 
-    /// The flips that the report keeps of the answer.
-    fn flips(self) -> u8
-        ensures { result ≡ flips_by self }
-    {
-        match self {
-            Answer::Settled { pattern, .. } => pattern.count_ones() as u8,
-            Answer::Gap { .. } => 0,
+    fn from(answer: Answer) -> Heard {
+        match answer {
+            Answer::Settled {
+                message,
+                pattern,
+                ..
+            } => Heard {
+                place: Place::Settled(message),
+                flips: pattern.count_ones() as u8,
+            },
+            Answer::Gap { .. } => Heard::default(),
         }
     }
 }
@@ -51,13 +48,6 @@ impl Answer {
 pub struct Receiver<C> {
     pub(crate) code: C,
     pub(crate) report: Report,
-}
-
-/// A refusal, at the place that the word was for.
-fn at_place(refusal: Fault, place: usize) -> Fault
-    ensures { result ≡ fault refusal.cause refusal.layer place }
-{
-    Fault { place, ..refusal }
 }
 
 /// The answer to a word for a place. A word beyond reach leaves a gap there; what else the code refuses goes up.
@@ -70,19 +60,19 @@ fn answer_at<C: Code>(code: &C, word: u64, place: usize) -> Result<Answer, Fault
             message: found.message,
             pattern: found.pattern,
         }),
-        Err(fault) => match fault.cause {
-            Cause::BeyondReach => Ok(Answer::Gap { place }),
-            _ => Err(at_place(fault, place)),
-        },
+        Err(refusal) if refusal.cause == Cause::BeyondReach => Ok(Answer::Gap { place }),
+        Err(refusal) => Err(Fault { place, ..refusal }),
     }
 }
 
 /// A lawful code leaves an offer one answer and one list of places. It does nothing but say so.
+#[tactic(auto, using(crate::proofs::Transitions::one_offer))]
 fn one_offer()
     ensures { OneOffer }
 {}
 
 /// The same of a repeat.
+#[tactic(auto, using(crate::proofs::Transitions::one_repeat))]
 fn one_repeat()
     ensures { OneRepeat }
 {}
@@ -111,9 +101,12 @@ impl<C: Code> Receiver<C> {
         let place = self.count();
         let answer = answer_at(&self.code, word, place)?;
         if self.report.is_full() {
-            return Err(at_place(Fault::new(Cause::ReportFull), place));
+            return Err(Fault {
+                place,
+                ..Fault::new(Cause::ReportFull)
+            });
         }
-        self.report.push(answer.kept(), answer.flips());
+        self.report.push(answer.into());
         Ok(answer)
     }
 
@@ -127,9 +120,12 @@ impl<C: Code> Receiver<C> {
         one_repeat();
         let answer = answer_at(&self.code, word, place)?;
         if !self.report.has_gap(place) {
-            return Err(at_place(Fault::new(Cause::NotAGap), place));
+            return Err(Fault {
+                place,
+                ..Fault::new(Cause::NotAGap)
+            });
         }
-        self.report.replace(place, answer.kept(), answer.flips());
+        self.report.replace(place, answer.into());
         Ok(answer)
     }
 

@@ -16,6 +16,7 @@ pub struct Sealed<C> {
     pub(crate) report: Report,
 }
 
+// `count`, `place` and `report` stand here as in the receiver: a trait of them is no plainer, since each caller would have to import it.
 impl<C: Code + Drop> Sealed<C> {
     /// How many places there are.
     pub fn count(&self) -> usize
@@ -39,6 +40,7 @@ impl<C: Code + Drop> Sealed<C> {
     }
 
     /// Writes the table whose messages the places hold, and answers how many bytes. A refusal leaves the buffer as it was.
+    #[tactic(auto, using(crate::proofs::SpellingPlaces::spelled_places))]
     pub fn spell(&self, buffer: &mut [u8]) -> Result<usize, Fault>
         ensures spells { Spells (C.means self.now.code) (places_of self.now.report) buffer.old result buffer.new }
         ensures one { OneSpell }
@@ -48,34 +50,29 @@ impl<C: Code + Drop> Sealed<C> {
             return Err(Fault::new(Cause::NoMessageBits));
         }
         let messages = self.report.messages()?;
-        spell(&self.code, &messages[0..self.count()], buffer)
+        spell(&self.code, &messages, buffer)
     }
 
     /// The line figure: flips in a thousand bits of the settled places.
     pub fn close(self) -> Option<u64>
         ensures { result ≡ line_figure (C.means self.code) (settled_in (places_of self.report)) (sum (flips_of self.report)) }
     {
-        match self.code.shape() {
-            Ok(shape) => per_thousand(shape.length, self.report.settled(), self.report.flips()),
-            Err(_) => None,
-        }
+        let shape = self.code.shape().ok()?;
+        per_thousand(shape.length, self.report.settled(), self.report.flips())
     }
 }
 
 /// A lawful code leaves spelling one answer and one buffer. It does nothing but say so.
+#[tactic(auto, using(crate::proofs::SpellingPlaces::one_spell))]
 fn one_spell()
     ensures { OneSpell }
 {}
 
 /// Flips in a thousand bits of so many words of n bits, absent where there is no bit.
-fn per_thousand(n: u32, settled: u64, flips: u64) -> Option<u64>
-    requires settled_bound { settled ≤ 256 }
-    requires flips_bound { flips ≤ 65280 }
+fn per_thousand(n: u32, settled: u64, flips: u32) -> Option<u64>
+    requires { settled ≤ 256 }
     ensures { result ≡ (if nat_lt 0 (n * settled) then Some (1000 * flips / (n * settled)) else None) }
 {
     let bits = u64::from(n) * settled;
-    if bits == 0 {
-        return None;
-    }
-    Some(1000 * flips / bits)
+    (1000 * u64::from(flips)).checked_div(bits)
 }

@@ -1,11 +1,12 @@
 -- Every reply has at most 32 bytes: places are below 256, and words of a code in service below 2 ^ 42.
 use Rattle.std.proofs.Common.{ℕ, ◌-◌, ◌^◌, ◌<◌, ◌≤◌, List, length, Ok, Err, sym, subst, inl, inr, lt_of_lt_of_le, lt_of_le_of_lt, div-le_self, arith, pow_mono}
 use lib.Bits.{bit_xor, xor_lt}
+use Rattle.std.proofs.lemmas.Option.{slice_get_within}
 use Rattle.codes.specs.Meaning.{Meaning, Lawful}
 use Rattle.link.specs.declared.receiver.Answer.{Answer}
 use Rattle.link.specs.declared.receiver.Answer.TheVariants.{Settled as settled_at, Gap as gap_at}
 use Rattle.link.specs.Receiver.{Answers}
-use Rattle.link.proofs.Places.{nth_within}
+use Rattle.link.specs.declared.report.Place.TheVariants.{Gap}
 use Rattle.lines.specs.declared.reply.Reply.{Reply}
 use Rattle.lines.specs.Reply.{reply_text}
 use Rattle.lines.proofs.Replies.{Usual, short_reply}
@@ -35,7 +36,7 @@ module _ (m : Meaning) (law : Lawful m) (before : Held) (few : length before.pla
   usual_done (Offer w) reply after (Err f, offered, keeps, e) = subst Usual (sym e) tt
   usual_done (Repeat p w) reply after (Ok a, repeated, keeps, e) =
       let passed = repeated.0 in
-      let there = nth_within before.places p passed.1.1.0 in
+      let there = slice_get_within before.places p Gap passed.1.1.0 in
       subst Usual (sym e) (usual_answer m law w (law.short passed.0) passed.1.0 p (omega arith) a repeated.1.0)
   usual_done (Repeat p w) reply after (Err f, repeated, keeps, e) = subst Usual (sym e) tt
   usual_done Clear reply after (e, places, flips) = subst Usual (sym e) tt

@@ -1,6 +1,7 @@
 -- A code that was picked keeps the laws, and a report has at most 256 places.
 use Rattle.std.specs.Prelude.{◌≤◌, length}
-use Rattle.std.proofs.Common.{arith, length-take}
+use Rattle.std.proofs.Common.{arith}
+use Rattle.std.proofs.lemmas.List.{length-map}
 use Rattle.codes.specs.Meaning.{Lawful}
 use Rattle.cyclic.specs.Generator.{numbers}
 use Rattle.cyclic.specs.Codewords.{lawful}
@@ -17,4 +18,4 @@ choice_lawful (Plain c) = lawful (numbers c.generator) (facts c.generator)
 choice_lawful (WithParity p) = parity_lawful (lawful (numbers p.below.generator) (facts p.below.generator))
 
 pub few_places : (r : Report) → length (places_of r) ≤ 256
-few_places r = simp length-take (omega (arith, r.ok.0))
+few_places r = simp length-map (omega (arith, r.few))

@@ -78,13 +78,12 @@ pub record Codewords (m : Meaning) (table words : List ℕ) : Type 0 where
   pub count : length words ≡ words_for m table
   pub each : (i : ℕ) → i < words_for m table → Carries m (message_at m.k table i) (get_or words i 0)
 
-pub front_words : (m : Meaning) (table before after : List ℕ) (c : ℕ) → Sent m table before (Ok c) after → Codewords m table (take (c - 0) after)
+pub front_words : (m : Meaning) (table before after : List ℕ) (c : ℕ) → Sent m table before (Ok c) after → Codewords m table (take c after)
 front_words m table before after c sent =
-    let count : c - 0 ≡ words_for m table = omega (arith, sent.1.0) in
     let words = sent.1.1 in
     record {
-      count = length-take-le (c - 0) after (omega (arith, count, words.count, sent.0.1.1.1.0)) ∙ count;
-      each = λ i l. subst (λ (x : ℕ). Carries m (message_at m.k table i) x) (sym (get_or-take (c - 0) after i 0 (omega (arith, count)))) (words.each i l);
+      count = length-take-le c after (omega (arith, sent.1.0, words.count, sent.0.1.1.1.0)) ∙ sent.1.0;
+      each = λ i l. subst (λ (x : ℕ). Carries m (message_at m.k table i) x) (sym (get_or-take c after i 0 (omega (arith, sent.1.0)))) (words.each i l);
     }
 
 xor_back : (a b : ℕ) → bit_xor a (bit_xor a b) ≡ b
@@ -222,18 +221,18 @@ module _ {m : Meaning} (law : Lawful m) (table patterns buffer : List ℕ) (serv
 
 module _ {S : Type 0} (mean : S → Meaning) (s : S) (law : Lawful (mean s)) (table patterns buffer before after : List ℕ) (c : ℕ)
     (sent : Sent (mean s) table before (Ok c) after) where
-  pub stopped_over : (s₁ : S) → s₁ ≡ s → (f : Fault) → Stopped (mean s₁) (take (c - 0) after) patterns f
+  pub stopped_over : (s₁ : S) → s₁ ≡ s → (f : Fault) → Stopped (mean s₁) (take c after) patterns f
       → Carried (mean s) table patterns buffer (Err f) buffer × Arrives (mean s) table patterns buffer (Err f) buffer
   stopped_over s₁ e f stop =
-      carry_stopped law table patterns buffer sent.0.0 sent.0.1.0 sent.0.1.1.0 (take (c - 0) after)
-      (front_words (mean s) table before after c sent) f (subst (λ (x : S). Stopped (mean x) (take (c - 0) after) patterns f) e stop)
+      carry_stopped law table patterns buffer sent.0.0 sent.0.1.0 sent.0.1.1.0 (take c after)
+      (front_words (mean s) table before after c sent) f (subst (λ (x : S). Stopped (mean x) (take c after) patterns f) e stop)
 
-  pub spelled_over : (s₁ s₂ : S) → s₁ ≡ s → s₂ ≡ s → Bytes table → (ps : List Place) → Arriving (mean s₁) (take (c - 0) after) patterns (length (take (c - 0) after)) ps
+  pub spelled_over : (s₁ s₂ : S) → s₁ ≡ s → s₂ ≡ s → Bytes table → (ps : List Place) → Arriving (mean s₁) (take c after) patterns (length (take c after)) ps
       → (r : Result ℕ Fault) (out : List ℕ) → Spells (mean s₂) ps buffer r out
       → Carried (mean s) table patterns buffer r out × Arrives (mean s) table patterns buffer r out
   spelled_over s₁ s₂ e e' bytes ps heard r out spells =
-      carry_spelled law table patterns buffer sent.0.0 sent.0.1.0 sent.0.1.1.0 (take (c - 0) after) (front_words (mean s) table before after c sent)
-      bytes ps (subst (λ (x : S). Arriving (mean x) (take (c - 0) after) patterns (length (take (c - 0) after)) ps) e heard) r out
+      carry_spelled law table patterns buffer sent.0.0 sent.0.1.0 sent.0.1.1.0 (take c after) (front_words (mean s) table before after c sent)
+      bytes ps (subst (λ (x : S). Arriving (mean x) (take c after) patterns (length (take c after)) ps) e heard) r out
       (subst (λ (x : S). Spells (mean x) ps buffer r out) e' spells)
 
 -- ---- two tables

@@ -1,9 +1,9 @@
 -- How the report follows the book.
-use Rattle.std.proofs.Common.{◌≡◌, ℕ, suc, ◌+◌, ◌^◌, ◌<◌, ◌≤◌, Bool, true, false, not, ◌&&◌, ltb, ◌⊎◌, List, [], ◌∷◌, ◌++◌, length, get_or, take, set, Some, Ok, Err, sum, Result, sym, refl, ap, ◌∙◌, subst, inl, inr, ⊎_elim, suc-le-suc, arith}
+use Rattle.std.proofs.Common.{◌≡◌, ℕ, suc, ◌+◌, ◌^◌, ◌<◌, ◌≤◌, Bool, true, false, cond, not, ◌&&◌, ltb, ◌⊎◌, List, [], ◌∷◌, ◌++◌, length, get_or, take, set, Some, Ok, Err, sum, Result, sym, refl, ap, ◌∙◌, subst, inl, inr, ⊎_elim, suc-le-suc, arith}
 use lib.Count.{ones}
 use Rattle.std.specs.List.{slice_get}
 use Rattle.std.proofs.lemmas.List.{length_push, length-set, get_or_append_left, get_or_push, get_or-set_same, get_or-set_other, take_more, take_all}
-use Rattle.std.proofs.lemmas.Option.{slice_get-get_or, slice_get_past}
+use Rattle.std.proofs.lemmas.Option.{slice_get-get_or, slice_get_within}
 use Rattle.std.proofs.lemmas.List.Sums.{sum_by-cons}
 use Rattle.std.proofs.lemmas.Bool.{and_from, and_left, and_right, cases_Bool, cases_lt, cases_eq, cond-true, cond-false, not_from_true, not_from_false, lt-ltb, le-ltb}
 use Rattle.codes.specs.declared.fault.Fault.{Fault}
@@ -14,7 +14,7 @@ use Rattle.link.specs.declared.receiver.Answer.TheVariants.{Settled as settled_a
 use Rattle.link.specs.declared.report.Place.{Place}
 use Rattle.link.specs.declared.report.Place.TheVariants.{Settled, Gap}
 use Rattle.link.specs.Receiver.{Answers, place_by, flips_by, Offered, Repeated, Keeps}
-use Rattle.link.specs.Report.{one_if_settled, settled_in}
+use Rattle.link.specs.Report.{is_settled, settled_in}
 use Rattle.runs.specs.declared.calls.Call.{Call}
 use Rattle.runs.specs.declared.calls.Call.TheVariants.{Offer, Repeat}
 use Rattle.runs.specs.Book.{reached, hearable, noted, book_from, book, Demands, Demanded, Tally}
@@ -105,8 +105,7 @@ module _ {m : Meaning} (law : Lawful m) {ws : List ℕ} {ps : List Place} {fs : 
 
   gap_open : slice_get ps p ≡ Some Gap → (p < length ws) × (open_place ≡ true)
   gap_open e =
-      let low : p < length ps =
-      ⊎_elim (λ l. l) (λ l. let z : ◌≡◌ {A = ℕ} 0 1 = cc (e, slice_get_past ps p l) in absurd (omega arith)) (cases_lt p (length ps)) in
+      let low : p < length ps = slice_get_within ps p Gap e in
       let low' : p < length ws = omega (arith, kept.count) in
       let gap : get_or ps p Gap ≡ Gap = cc (slice_get-get_or ps p Gap low) in
       let far = subst (λ (x : Place). Demands m (get_or ws p 0) x (get_or fs p 0)) gap (kept.each p low') in (
@@ -170,7 +169,7 @@ run_all {S} mean s₀ s cs i ps fs e l kept =
 
 -- ---- the tally of a book is that of the report
 
-tallied_one : (m : Meaning) (w : ℕ) (ws : List ℕ) (x : Place) (f s' f' : ℕ) → Demands m w x f → Tally m ws s' f' → Tally m (w ∷ ws) (one_if_settled x + s') (f + f')
+tallied_one : (m : Meaning) (w : ℕ) (ws : List ℕ) (x : Place) (f s' f' : ℕ) → Demands m w x f → Tally m ws s' f' → Tally m (w ∷ ws) (cond (is_settled x) 1 0 + s') (f + f')
 tallied_one m w ws (Settled a) f s' f' d rest = inl (d.0, d.1, (s', f', rest, refl, ap (λ (y : ℕ). y + f') d.3))
 tallied_one m w ws Gap f s' f' d rest =
     inr (d.0, subst (λ (y : ℕ). Tally m ws y (f + f')) (omega arith) (subst (λ (y : ℕ). Tally m ws s' y) (omega (arith, d.1)) rest))
@@ -184,5 +183,5 @@ tallied m (w ∷ ws) (x ∷ ps) [] kept = absurd (omega (arith, kept.counts))
 tallied m (w ∷ ws) (x ∷ ps) (f ∷ fs) kept =
     let rest = tallied m ws ps fs (record { count = omega (arith, kept.count); counts = omega (arith, kept.counts); each = λ p l. kept.each (suc p) (suc-le-suc l) }) in
     let all = tallied_one m w ws x f (settled_in ps) (sum fs) (kept.each 0 (omega arith)) rest in
-    subst (λ (s : ℕ). Tally m (w ∷ ws) s (sum (f ∷ fs))) (sym (sum_by-cons one_if_settled x ps))
-    (subst (λ (s : ℕ). Tally m (w ∷ ws) (one_if_settled x + settled_in ps) s) (sym (sum_by-cons (λ (y : ℕ). y) f fs)) all)
+    subst (λ (s : ℕ). Tally m (w ∷ ws) s (sum (f ∷ fs))) (sym (sum_by-cons (λ (y : Place). cond (is_settled y) 1 0) x ps))
+    (subst (λ (s : ℕ). Tally m (w ∷ ws) (cond (is_settled x) 1 0 + settled_in ps) s) (sym (sum_by-cons (λ (y : ℕ). y) f fs)) all)

@@ -34,6 +34,7 @@ fn make<C: Code>(receiver: &mut Receiver<C>, call: Call)
 }
 
 /// A new receiver over the code, after the calls in their order.
+#[tactic(auto, using(crate::proofs::Following::demanded_none, crate::proofs::Following::run_all, crate::proofs::Following::tallied))]
 pub fn replay<C: Code>(code: C, calls: &[Call]) -> Receiver<C>
     ensures holds { result.code ≡ code }
     ensures places { Demanded (C.means code) (book (C.means code) calls.now) (places_of result.report) (flips_of result.report) }
@@ -54,13 +55,6 @@ pub struct Comparison<C, D> {
     pub equal: bool,
 }
 
-/// Whether two receivers have equal reports, whatever their codes.
-fn equal_reports<C: Code, D: Code>(one: &Receiver<C>, other: &Receiver<D>) -> bool
-    ensures { MatchBool result (places_of one.now.report ≡ places_of other.now.report) (places_of one.now.report ≢ places_of other.now.report) }
-{
-    one.report().same(other.report())
-}
-
 /// Runs each list of calls on a new receiver of its own, and compares the reports.
 pub fn compare<C: Code, D: Code>(
     one: C,
@@ -74,7 +68,7 @@ pub fn compare<C: Code, D: Code>(
 {
     let first = replay(one, calls);
     let second = replay(other, others);
-    let equal = equal_reports(&first, &second);
+    let equal = first.report().same(second.report());
     Comparison {
         first,
         second,

@@ -16,10 +16,21 @@ pub struct Run<'a, C> {
 }
 
 /// A table, the bits that are turned over in each of its words, and the code that it is sent over.
+#[derive(Drop)]
 pub struct Trip<'a, C> {
     pub code: C,
     pub table: &'a [u8],
     pub patterns: &'a [u64],
+}
+
+impl<C: Code + Drop> Trip<'_, C> {
+    /// Carries the table over its code.
+    fn carry(self, buffer: &mut [u8]) -> Result<usize, Fault>
+        ensures carried { Carried (C.means self.entry.code) self.entry.table.now self.entry.patterns.now buffer.old result buffer.new }
+        ensures arrives { Arrives (C.means self.entry.code) self.entry.table.now self.entry.patterns.now buffer.old result buffer.new }
+    {
+        carry(self.code, self.table, self.patterns, buffer)
+    }
 }
 
 /// What came of two runs and two trips.
@@ -30,20 +41,9 @@ pub struct Judgement<C, D> {
     pub second: Result<usize, Fault>,
 }
 
-/// Carries a table over its code.
-fn carry_trip<C: Code + Drop>(trip: Trip<'_, C>, buffer: &mut [u8]) -> Result<usize, Fault>
-    ensures carried { Carried (C.means trip.entry.code) trip.entry.table.now trip.entry.patterns.now buffer.old result buffer.new }
-    ensures arrives { Arrives (C.means trip.entry.code) trip.entry.table.now trip.entry.patterns.now buffer.old result buffer.new }
-{
-    let Trip {
-        code,
-        table,
-        patterns,
-    } = trip;
-    carry(code, table, patterns, buffer)
-}
-
 /// Carries two tables, each over its own code and into its own buffer.
+// Each buffer stands beside its trip, so that the clauses name what it held and what it holds now.
+#[tactic(auto, using(crate::proofs::Carrying::carriages_from))]
 pub fn carry_both<E: Code + Drop, F: Code + Drop>(
     first: Trip<'_, E>,
     buffer: &mut [u8],
@@ -54,9 +54,7 @@ pub fn carry_both<E: Code + Drop, F: Code + Drop>(
     ensures second { Carried (F.means second.entry.code) second.entry.table.now second.entry.patterns.now other.old result.1 other.new }
     ensures law { Carriages (E.means first.entry.code) (F.means second.entry.code) first.entry.table.now first.entry.patterns.now buffer.old result.0 buffer.new second.entry.table.now second.entry.patterns.now other.old result.1 other.new }
 {
-    let one = carry_trip(first, buffer);
-    let two = carry_trip(second, other);
-    (one, two)
+    (first.carry(buffer), second.carry(other))
 }
 
 /// Makes both runs and compares their reports, and carries both tables.
@@ -81,10 +79,10 @@ pub fn judge<C: Code, D: Code, E: Code + Drop, F: Code + Drop>(
         calls: other_calls,
     } = other;
     let runs = compare(code, calls, other_code, other_calls);
-    let carried = carry_both(first, first_buffer, second, second_buffer);
+    let (first, second) = carry_both(first, first_buffer, second, second_buffer);
     Judgement {
         runs,
-        first: carried.0,
-        second: carried.1,
+        first,
+        second,
     }
 }

@@ -16,10 +16,11 @@ const ROOM: usize = 256;
 fn pattern_at(patterns: &[u64], i: usize) -> u64
     ensures { result ≡ slice_index patterns.now i }
 {
-    if i < patterns.len() { patterns[i] } else { 0 }
+    patterns.get(i).copied().unwrap_or(0)
 }
 
 /// Offers the words in order, each with its bits turned over, and stops at the first that is refused.
+#[tactic(auto, using(crate::proofs::Carrying::arriving_none))]
 fn offer_all<C: Code>(
     receiver: &mut Receiver<C>,
     words: &[u64],
@@ -29,8 +30,8 @@ fn offer_all<C: Code>(
     ensures same { receiver.new.code ≡ receiver.old.code }
     ensures heard { MatchResult result (λ _. Arriving (C.means receiver.old.code) words.now patterns.now (length words.now) (places_of receiver.new.report)) (Stopped (C.means receiver.old.code) words.now patterns.now) }
 {
-    for i in 0..words.len() {
-        receiver.offer(words[i] ^ pattern_at(patterns, i))?;
+    for (i, word) in words.iter().enumerate() {
+        receiver.offer(*word ^ pattern_at(patterns, i))?;
     }
     Ok(())
 }
@@ -45,9 +46,10 @@ pub fn carry<C: Code + Drop>(
     ensures carried { Carried (C.means code) table.now patterns.now buffer.old result buffer.new }
     ensures arrives { Arrives (C.means code) table.now patterns.now buffer.old result buffer.new }
 {
+    // No heap: the words are written into an array, and their count is the answer.
     let mut words = [0; ROOM];
     let count = send(&code, table, &mut words)?;
     let mut receiver = Receiver::new(code);
-    offer_all(&mut receiver, &words[0..count], patterns)?;
+    offer_all(&mut receiver, &words[..count], patterns)?;
     receiver.seal().spell(buffer)
 }

@@ -5,28 +5,18 @@ use Rattle.runs.specs.Book.{noted, Demanded}
 use Rattle.runs.proofs.Following.{offer_noted, repeat_noted}
 use Rattle.runs.proofs.calls.make.Goals as goal
 
-pub returns-in-Offer : goal.returns-in-Offer
-returns-in-Offer g c =
-    let code = g.C.Code in
-    let m = code.means c.args.receiver.now.code in
+pub returns-in-Offer-clause-follows : goal.returns-in-Offer-clause-follows
+returns-in-Offer-clause-follows g c ws kept =
+    let m = g.C.Code.means c.args.receiver.now.code in
     let after = c.offer.new.self.report in
-    record {
-      same = c.offer.ensures.same;
-      follows = λ ws kept.
-          subst (λ (x : Call). Demanded m (noted m ws x) (places_of after) (flips_of after)) (sym c.in-Offer.is)
-          (offer_noted kept c.in-Offer.word (places_of after) (flips_of after) c.offer.result c.offer.ensures.answer c.offer.ensures.flips);
-    }
+    subst (λ (x : Call). Demanded m (noted m ws x) (places_of after) (flips_of after)) (sym c.in-Offer.is)
+    (offer_noted kept c.in-Offer.word (places_of after) (flips_of after) c.offer.result c.offer.ensures.answer c.offer.ensures.flips)
 
-pub returns-in-Repeat : goal.returns-in-Repeat
-returns-in-Repeat g c =
+pub returns-in-Repeat-clause-follows : goal.returns-in-Repeat-clause-follows
+returns-in-Repeat-clause-follows g c ws kept =
     let code = g.C.Code in
     let m = code.means c.args.receiver.now.code in
-    let law = g.met.C.Code.lawful c.args.receiver.now.code in
     let after = c.repeat.new.self.report in
-    record {
-      same = c.repeat.ensures.same;
-      follows = λ ws kept.
-          subst (λ (x : Call). Demanded m (noted m ws x) (places_of after) (flips_of after)) (sym c.in-Repeat.is)
-          (repeat_noted law kept c.in-Repeat.place c.in-Repeat.word (places_of after) (flips_of after) c.repeat.result c.repeat.ensures.answer
-          c.repeat.ensures.flips);
-    }
+    subst (λ (x : Call). Demanded m (noted m ws x) (places_of after) (flips_of after)) (sym c.in-Repeat.is)
+    (repeat_noted (g.met.C.Code.lawful c.args.receiver.now.code) kept c.in-Repeat.place c.in-Repeat.word (places_of after) (flips_of after)
+    c.repeat.result c.repeat.ensures.answer c.repeat.ensures.flips)

@@ -1,11 +1,8 @@
-use Rattle.std.proofs.Common.{get_or, refl, ap, ◌∙◌}
+use Rattle.std.proofs.Common.{get_or, ap, ◌∙◌}
 use lib.Bits.{bit_xor}
 use Rattle.link.specs.Report.{places_of}
-use Rattle.runs.proofs.Carrying.{arriving_none, arriving_next}
+use Rattle.runs.proofs.Carrying.{arriving_next}
 use Rattle.runs.proofs.transport.offer_all.Goals as goal
-
-pub loop-i-init : goal.loop-i-init
-loop-i-init g c = (refl, arriving_none _ c.args.words.now c.args.patterns.now (places_of c.args.receiver.now.report) c.requires)
 
 pub loop-i-preserved : goal.loop-i-preserved
 loop-i-preserved g c =
