@@ -1,25 +1,15 @@
 -- What digits write, and the digits of a number.
-use Rattle.std.proofs.Common.{◌≡◌, ℕ, ◌+◌, ◌*◌, ◌/◌, ◌%◌, ◌^◌, ◌<◌, ◌≤◌, eqb, List, [], ◌∷◌, ◌++◌, map, length, get_or, take, sym, refl, ap, ◌∙◌, subst, ⊎_elim, add-zero, mod-eq_of_lt, arith}
+use Rattle.std.proofs.Common.{◌≡◌, ℕ, ◌+◌, ◌*◌, ◌/◌, ◌%◌, ◌^◌, ◌<◌, ◌≤◌, eqb, List, [], ◌∷◌, ◌++◌, map, length, get_or, take, sym, refl, ap, ◌∙◌, subst, ⊎_elim, mod-eq_of_lt, arith}
 use native.Mathlib.Nat.{pow-le-pow_left, pow-le-pow_right, div-eq_of_lt, div-lt_self}
 use Rattle.std.specs.Int.Digits.{number_from_digits, digits_of, AllBelowBase}
 use Rattle.std.proofs.lemmas.Int.Digits.{number_digits_of, all_below_base_digits_of, number_push, number_lt, digits_of_step, length-digits_of-le}
 use Rattle.std.proofs.lemmas.Nat.{le-div}
 use Rattle.std.proofs.ByRecursion.{All-get_or, All-push}
-use Rattle.std.proofs.lemmas.List.{length-append, length-map, map_push, get_or-map, take_more}
+use Rattle.std.proofs.lemmas.List.{append_assoc, length-append, length-map, map_push, get_or-map, take_more}
+use Rattle.std.proofs.lemmas.Bool.Decides.{nat_tests}
 use Rattle.std.proofs.lemmas.Bool.{cases_eq, cond-true, cond-false, eq-eqb, ne_eqb}
-use Rattle.lines.specs.declared.number.Base.{Base}
-use Rattle.lines.specs.declared.number.Base.TheVariants.{Decimal, Hexadecimal}
-use Rattle.lines.specs.Buffer.{put}
-use Rattle.lines.specs.Number.{base_number, digit, IsDigit, Writes, text_of}
-use Rattle.lines.proofs.Buffers.{Ahead, put_none}
-
-pub base_most : (b : Base) → base_number b ≤ 16
-base_most Decimal = omega arith
-base_most Hexadecimal = omega arith
-
-pub base_least : (b : Base) → 2 ≤ base_number b
-base_least Decimal = omega arith
-base_least Hexadecimal = omega arith
+use Rattle.lines.specs.Number.{digit, IsDigit, Writes, text_of}
+use Rattle.lines.specs.Reply.{field}
 
 -- ---- reading
 
@@ -134,21 +124,23 @@ count_most b k x two some low =
     ⊎_elim (λ e. omega (arith, ap length (cond-true (eqb x 0) (digit 0 ∷ []) (map digit (digits_of b x)) (eq-eqb x 0 e))))
     (λ ne. omega (arith, ap length (text_some b x (omega arith)), length-map (digits_of b x) digit, length-digits_of-le b k x two low)) (cases_eq x 0)
 
-pub count_word : (b x : ℕ) → 2 ≤ b → x < 2 ^ 64 → length (text_of b x) ≤ 64
-count_word b x two low = count_most b 64 x two (omega arith) (omega (arith, pow-le-pow_left two 64))
-
 pub above_less : (b x : ℕ) → 2 ≤ b → b ≤ x → x / b < x
 above_less b x two high = div-lt_self (omega arith) (omega arith)
 
--- where the digits above the last one stand in the buffer, or there are none
-module _ (b x : ℕ) (two : 2 ≤ b) (before : List ℕ) (at : ℕ) (mid : List ℕ) (last : ℕ) where
-  pub ahead_more : b ≤ x → (y : ℕ) → y ≡ x / b → mid ≡ put before at (text_of b y) → last ≡ at + length (text_of b y) → Ahead before at (text_of b x) (digit (x % b)) mid last
-  ahead_more high y is there place = record {
-    front = text_of b y;
-    there = there;
-    place = place;
-    whole = text_more b x two high ∙ ap (λ (n : ℕ). text_of b n ++ digit (x % b) ∷ []) (sym is);
-  }
+pub field_decimal : (x : ℕ) → x < 2 ^ 64 → length (field 10 x) ≤ 21
+field_decimal x low = omega (arith, count_most 10 20 x (omega arith) (omega arith) (omega arith))
 
-  pub ahead_none : x < b → mid ≡ before → last ≡ at → Ahead before at (text_of b x) (digit (x % b)) mid last
-  ahead_none low there place = record { front = []; there = there ∙ put_none before at; place = place ∙ sym (add-zero at); whole = text_one b x two low }
+pub field_hexadecimal : (x : ℕ) → x < 2 ^ 64 → length (field 16 x) ≤ 17
+field_hexadecimal x low = omega (arith, count_most 16 16 x (omega arith) (omega arith) (omega arith))
+
+pub digit_ascii : (d : ℕ) → d < 16 → digit d < 128
+digit_ascii d low = grind (arith, nat_tests)
+
+-- a text ends in the digits of a number once its last one is behind those above, or behind none
+module _ (b x : ℕ) (two : 2 ≤ b) (front before : List ℕ) where
+  pub last_behind : b ≤ x → before ≡ front ++ text_of b (x / b) → before ++ digit (x % b) ∷ [] ≡ front ++ text_of b x
+  last_behind high e =
+      ap (λ (t : List ℕ). t ++ digit (x % b) ∷ []) e ∙ append_assoc front (text_of b (x / b)) (digit (x % b) ∷ []) ∙ ap (λ (t : List ℕ). front ++ t) (sym (text_more b x two high))
+
+  pub last_alone : x < b → before ≡ front → before ++ digit (x % b) ∷ [] ≡ front ++ text_of b x
+  last_alone low e = ap (λ (t : List ℕ). t ++ digit (x % b) ∷ []) e ∙ ap (λ (t : List ℕ). front ++ t) (sym (text_one b x two low))

@@ -78,8 +78,5 @@ pub fn read_heading(line: &[u8]) -> Result<Heading, Fault>
     ensures law { Headings }
 {
     headings();
-    match find_heading(line) {
-        Some(heading) => Ok(heading),
-        None => Err(Fault::new(Cause::BadLine)),
-    }
+    find_heading(line).ok_or(Fault::new(Cause::BadLine))
 }

@@ -20,22 +20,13 @@ impl PartialLine {
         }
     }
 
-    /// Keeps one byte more.
-    fn keep(&mut self, byte: u8)
-        requires { self.old.count < 18 }
-        ensures bytes { self.new.bytes ≡ slice_set self.old.bytes self.old.count byte }
-        ensures count { self.new.count ≡ self.old.count + 1 }
-    {
-        self.bytes[self.count] = byte;
-        self.count += 1;
-    }
-
     /// Reads one byte more of the line. Past the room it is not kept.
     pub fn push(&mut self, byte: u8)
         ensures { kept_in self.new ≡ take 18 (kept_in self.old ++ byte ∷ []) }
     {
         if self.count < ROOM {
-            self.keep(byte);
+            self.bytes[self.count] = byte;
+            self.count += 1;
         }
     }
 
