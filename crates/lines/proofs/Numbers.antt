@@ -20,9 +20,6 @@ pub record Begun (base : ℕ) (front : List ℕ) (x : ℕ) : Type 0 where
   pub spelled : front ≡ map digit digits
   pub value : x ≡ number_from_digits base digits
 
-pub begun_none : (base : ℕ) → Begun base [] 0
-begun_none base = record { digits = []; under = tt; spelled = refl; value = refl }
-
 module _ {base : ℕ} {front : List ℕ} {x : ℕ} (so : Begun base front x) where
   begun_count : length so.digits ≡ length front
   begun_count = sym (ap length so.spelled ∙ length-map so.digits digit)
@@ -48,16 +45,6 @@ module _ {base : ℕ} {front : List ℕ} {x : ℕ} (so : Begun base front x) whe
 
   pub begun_product : 0 < base → base ≤ 16 → length front < 11 → x * base < 2 ^ 44
   begun_product some small few = omega (arith, begun_below (digit 0) 0 (some, refl) small few)
-
-  pub begun_all : (most : ℕ) → 0 < length front → length front ≤ most → Writes base most front x
-  begun_all most some few = record {
-    digits = so.digits;
-    under = so.under;
-    spelled = so.spelled;
-    some = omega (arith, begun_count);
-    few = omega (arith, begun_count);
-    value = so.value;
-  }
 
 pub begun_more : {base : ℕ} {x : ℕ} (text : List ℕ) (i : ℕ) → Begun base (take i text) x → (d : ℕ) → i < length text → IsDigit base (get_or text i 0) d → Begun base (take (i + 1) text) (x * base + d)
 begun_more {base} {x} text i so d l is = subst (λ (f : List ℕ). Begun base f (x * base + d)) (sym (take_more text i 0 l)) (begun_push so (get_or text i 0) d is)
@@ -111,9 +98,6 @@ text_more b x two high =
     let above : 0 < x / b = le-div 1 x b (omega arith) (omega arith) in
     text_some b x h ∙ ap (map digit) (digits_of_step b x two h) ∙ map_push digit (digits_of b (x / b)) (x % b)
     ∙ ap (λ (t : List ℕ). t ++ digit (x % b) ∷ []) (sym (text_some b (x / b) above))
-
-pub count_one : (b x : ℕ) → 2 ≤ b → x < b → length (text_of b x) ≡ 1
-count_one b x two low = ap length (text_one b x two low)
 
 pub count_more : (b x : ℕ) → 2 ≤ b → b ≤ x → length (text_of b x) ≡ length (text_of b (x / b)) + 1
 count_more b x two high = ap length (text_more b x two high) ∙ length-append (text_of b (x / b)) (digit (x % b) ∷ [])

@@ -7,8 +7,6 @@ use Rattle.codes.specs.Meaning.{One}
 use Rattle.lines.specs.declared.heading.Heading.{Heading}
 use Rattle.lines.specs.declared.heading.Name.{Name}
 use Rattle.lines.specs.declared.heading.Name.TheVariants.{G23, Q31, Q41}
-use Rattle.lines.specs.declared.token.Token.{Token}
-use Rattle.lines.specs.declared.token.Token.TheVariants.{Name as NameToken, Place, Word}
 use Rattle.lines.specs.Command.{BadLineFault}
 
 abbrev pub name_text : Name → List ℕ
@@ -23,12 +21,6 @@ mark_text false = []
 
 abbrev pub heading_text : Heading → List ℕ
 heading_text h = name_text h.name ++ mark_text h.parity
-
--- the token is a code's name
-abbrev pub TokenNames : Token → Name → Type 0
-TokenNames (NameToken text) n = text.now ≡ name_text n
-TokenNames (Place text) n = ⊥
-TokenNames (Word text) n = ⊥
 
 abbrev pub NamesNone : List ℕ → Type 0
 NamesNone line = (h : Heading) → line ≢ heading_text h

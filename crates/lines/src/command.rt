@@ -1,48 +1,42 @@
 //! The lines that stand for commands.
 ghost use Rattle.std.specs.Prelude.{◌∷◌};
 ghost use Rattle.lines.specs.Command.{Finds, ReadAs, Grammar};
+ghost use Rattle.lines.specs.Token.{space};
 
-use crate::token::{Token, after_space, cut_at_space};
+use crate::number::{read_place, read_word};
+use crate::token::cut_at_space;
 use codes::fault::{Cause, Fault};
 use runs::calls::Call;
 
-/// What a `W` is followed by: a word.
-fn read_offer(tail: &[u8]) -> Option<Call>
-    ensures { Finds (87 ∷ tail.now) result }
+/// The offer of the word that follows `W` and a space.
+fn read_offer(text: &[u8]) -> Option<Call>
+    ensures { Finds (87 ∷ space ∷ text.now) result }
 {
-    let word = Token::Word(after_space(tail)?).number()?;
+    let word = read_word(text)?;
     Some(Call::Offer { word })
 }
 
-/// What an `R` is followed by: a place and a word.
-fn read_repeat(tail: &[u8]) -> Option<Call>
-    ensures { Finds (82 ∷ tail.now) result }
+/// The repeat of the place and the word that follow `R` and a space.
+fn read_repeat(text: &[u8]) -> Option<Call>
+    ensures { Finds (82 ∷ space ∷ text.now) result }
 {
-    let (digits, rest) = cut_at_space(after_space(tail)?)?;
-    let place = Token::Place(digits).number()?;
-    let word = Token::Word(rest).number()?;
+    let (digits, rest) = cut_at_space(text)?;
+    let place = read_place(digits)?;
+    let word = read_word(rest)?;
     Some(Call::Repeat {
         place: place as usize,
         word,
     })
 }
 
-/// What a `C` is followed by: nothing.
-fn read_clear(tail: &[u8]) -> Option<Call>
-    ensures { Finds (67 ∷ tail.now) result }
-{
-    tail.is_empty().then_some(Call::Clear)
-}
-
 /// The command that a line stands for, absent where there is none. Its first letter says which.
 fn find_command(line: &[u8]) -> Option<Call>
     ensures { Finds line.now result }
 {
-    let (first, tail) = line.split_first()?;
-    match char::from(*first) {
-        'W' => read_offer(tail),
-        'R' => read_repeat(tail),
-        'C' => read_clear(tail),
+    match line {
+        [b'W', b' ', text @ ..] => read_offer(text),
+        [b'R', b' ', text @ ..] => read_repeat(text),
+        [b'C'] => Some(Call::Clear),
         _ => None,
     }
 }

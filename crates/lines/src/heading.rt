@@ -1,9 +1,8 @@
 //! The first line of a listing, which names a code.
 ghost use Rattle.std.specs.Prelude.{◌≡◌, Bool, MatchOption, ◌≢◌};
 ghost use Rattle.lines.specs.declared.heading.Name.{Name as CodeName};
-ghost use Rattle.lines.specs.Heading.{name_text, mark_text, TokenNames, FindsHeading, HeadingReadAs, Headings};
+ghost use Rattle.lines.specs.Heading.{name_text, mark_text, FindsHeading, HeadingReadAs, Headings};
 
-use crate::token::Token;
 use codes::fault::{Cause, Fault};
 
 /// The name of a code.
@@ -36,16 +35,6 @@ fn find_name(text: &[u8]) -> Option<Name>
     }
 }
 
-/// The code that a token names, absent where it is no name.
-fn read_name(token: Token) -> Option<Name>
-    ensures { MatchOption result ((n : CodeName) → TokenNames token.entry n → ⊥) (TokenNames token.entry) }
-{
-    match token {
-        Token::Name(text) => find_name(text),
-        Token::Place(_) | Token::Word(_) => None,
-    }
-}
-
 /// Whether the mark behind a name adds a parity layer, absent where it is no mark.
 fn read_mark(mark: &[u8]) -> Option<bool>
     ensures { MatchOption result ((p : Bool) → mark.now ≢ mark_text p) (λ p. mark.now ≡ mark_text p) }
@@ -62,7 +51,7 @@ fn find_heading(line: &[u8]) -> Option<Heading>
     ensures { FindsHeading line.now result }
 {
     let (front, mark) = line.split_at_checked(NAME_LENGTH)?;
-    let name = read_name(Token::Name(front))?;
+    let name = find_name(front)?;
     let parity = read_mark(mark)?;
     Some(Heading { name, parity })
 }

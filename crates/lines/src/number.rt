@@ -32,7 +32,7 @@ fn read_digit(base: Base, byte: u8) -> Option<u64>
 }
 
 /// The number that a text writes with at most so many digits, absent where it writes none.
-pub(crate) fn read_number(base: Base, most: usize, text: &[u8]) -> Option<u64>
+fn read_number(base: Base, most: usize, text: &[u8]) -> Option<u64>
     requires { most ≤ 11 }
     ensures { MatchOption result ((x : ℕ) → Writes (base_number base) most text.now x → ⊥) (Writes (base_number base) most text.now) }
 {
@@ -44,6 +44,20 @@ pub(crate) fn read_number(base: Base, most: usize, text: &[u8]) -> Option<u64>
         value = value * base.radix() + read_digit(base, *byte)?;
     }
     Some(value)
+}
+
+/// The place that a text writes, absent where it writes none.
+pub(crate) fn read_place(text: &[u8]) -> Option<u64>
+    ensures { MatchOption result ((x : ℕ) → Writes 10 3 text.now x → ⊥) (Writes 10 3 text.now) }
+{
+    read_number(Base::Decimal, 3, text)
+}
+
+/// The word that a text writes, absent where it writes none.
+pub(crate) fn read_word(text: &[u8]) -> Option<u64>
+    ensures { MatchOption result ((x : ℕ) → Writes 16 11 text.now x → ⊥) (Writes 16 11 text.now) }
+{
+    read_number(Base::Hexadecimal, 11, text)
 }
 
 /// The character of a digit.

@@ -1,6 +1,7 @@
+use Rattle.std.proofs.Common.{◌∷◌, refl}
+use Rattle.lines.specs.Token.{space}
 use Rattle.lines.proofs.Commands.{offer_no_word}
 use Rattle.lines.proofs.command.read_offer.Goals as goal
 
 pub returns-in_err-word : goal.returns-in_err-word
-returns-in_err-word c =
-    rw c.from_residual-in_err-word.ensures (offer_no_word c.args.tail.now c.in_ok-after_space.field-0.now c.in_ok-after_space.ensures c.in_err-word.ensures)
+returns-in_err-word c = let text = c.args.text.now in rw c.from_residual.ensures (offer_no_word (space ∷ text) text refl c.in_err-word.ensures)
