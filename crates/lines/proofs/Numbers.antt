@@ -111,11 +111,12 @@ count_most b k x two some low =
 pub above_less : (b x : ℕ) → 2 ≤ b → b ≤ x → x / b < x
 above_less b x two high = div-lt_self (omega arith) (omega arith)
 
-pub field_decimal : (x : ℕ) → x < 2 ^ 64 → length (field 10 x) ≤ 21
-field_decimal x low = omega (arith, count_most 10 20 x (omega arith) (omega arith) (omega arith))
+-- a line with a number behind a space is longer by 20 or 16 digits at most, and the space
+pub behind_decimal : (line : List ℕ) (x : ℕ) → x < 2 ^ 64 → length (line ++ field 10 x) ≤ length line + 21
+behind_decimal line x low = omega (arith, length-append line (field 10 x), count_most 10 20 x (omega arith) (omega arith) (omega arith))
 
-pub field_hexadecimal : (x : ℕ) → x < 2 ^ 64 → length (field 16 x) ≤ 17
-field_hexadecimal x low = omega (arith, count_most 16 16 x (omega arith) (omega arith) (omega arith))
+pub behind_hexadecimal : (line : List ℕ) (x : ℕ) → x < 2 ^ 64 → length (line ++ field 16 x) ≤ length line + 17
+behind_hexadecimal line x low = omega (arith, length-append line (field 16 x), count_most 16 16 x (omega arith) (omega arith) (omega arith))
 
 pub digit_ascii : (d : ℕ) → d < 16 → digit d < 128
 digit_ascii d low = grind (arith, nat_tests)

@@ -59,6 +59,7 @@ impl Line {
     }
 
     /// The line with a place or the number of a cause.
+    #[tactic(auto, using(crate::proofs::Numbers::behind_decimal))]
     pub(crate) fn decimal(self, number: u64) -> Line
         requires { length self ≤ 37 }
         ensures text { result ≡ self ++ field 10 number }
@@ -68,6 +69,7 @@ impl Line {
     }
 
     /// The line with a message or a pattern.
+    #[tactic(auto, using(crate::proofs::Numbers::behind_hexadecimal))]
     pub(crate) fn hexadecimal(self, bits: u64) -> Line
         requires { length self ≤ 41 }
         ensures text { result ≡ self ++ field 16 bits }
