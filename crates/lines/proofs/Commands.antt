@@ -1,5 +1,5 @@
 -- What each letter leaves, that no line stands for two commands, and that each line has one reading.
-use Rattle.std.proofs.Common.{◌≡◌, ℕ, ◌<◌, ◌≤◌, ◌⊎◌, List, [], ◌∷◌, ◌++◌, length, get_or, drop, Ok, Err, Result, sym, refl, ap, ◌∙◌, subst, inl, inr, ⊎_elim, arith}
+use Rattle.std.proofs.Common.{◌≡◌, ℕ, ◌≤◌, ◌⊎◌, List, [], ◌∷◌, ◌++◌, length, get_or, drop, Ok, Err, Result, sym, refl, ap, ◌∙◌, subst, inl, inr, ⊎_elim, arith}
 use Rattle.std.proofs.lemmas.List.{length-append}
 use Rattle.std.proofs.lemmas.Bool.{cases_eq}
 use Rattle.codes.specs.declared.fault.Cause.TheVariants.{BadLine}
@@ -174,6 +174,3 @@ pub command_length : (line : List ℕ) (c : Call) → Stands line c → length l
 command_length line (Offer w) s = omega (arith, ap length s.1, writes_short s.2)
 command_length line (Repeat p w) s = omega (arith, ap length s.2, length-append s.0 (space ∷ s.1), writes_short s.3, writes_short s.4)
 command_length line Clear s = omega (arith, ap length s)
-
-pub long_line : (line : List ℕ) → 17 < length line → StandsForNone line
-long_line line long c s = omega (arith, command_length line c s)

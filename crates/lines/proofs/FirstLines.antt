@@ -11,21 +11,6 @@ use Rattle.cyclic.specs.declared.name.Name.TheVariants.{G23, Q31, Q41}
 use Rattle.lines.specs.Command.{BadLineFault}
 use Rattle.lines.specs.Heading.{name_text, mark_text, heading_text, NamesNone, is_heading, HeadingReadAs, Headings}
 
--- ---- texts of a few bytes
-
-pub two_bytes : (xs : List ℕ) (a b : ℕ) → length xs ≡ 2 → get_or xs 0 0 ≡ a → get_or xs 1 0 ≡ b → xs ≡ a ∷ b ∷ []
-two_bytes [] a b n p q = absurd (omega arith)
-two_bytes (x ∷ []) a b n p q = absurd (omega arith)
-two_bytes (x ∷ y ∷ []) a b n p q = cc
-two_bytes (x ∷ y ∷ z ∷ xs) a b n p q = absurd (omega arith)
-
-pub three_bytes : (xs : List ℕ) (a b c : ℕ) → length xs ≡ 3 → get_or xs 0 0 ≡ a → get_or xs 1 0 ≡ b → get_or xs 2 0 ≡ c → xs ≡ a ∷ b ∷ c ∷ []
-three_bytes [] a b c n p q r = absurd (omega arith)
-three_bytes (x ∷ xs) a b c n p q r =
-    let heads : x ≡ a = p in
-    let tails : xs ≡ b ∷ c ∷ [] = two_bytes xs b c (omega arith) q r in
-    cc
-
 -- ---- no line is two headings
 
 abbrev heading : Name → Bool → Heading

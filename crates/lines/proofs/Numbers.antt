@@ -1,25 +1,15 @@
 -- What digits write, and the digits of a number.
-use Rattle.std.proofs.Common.{◌≡◌, ℕ, ◌+◌, ◌*◌, ◌/◌, ◌%◌, ◌^◌, ◌<◌, ◌≤◌, eqb, List, [], ◌∷◌, ◌++◌, map, length, get_or, take, sym, refl, ap, ◌∙◌, subst, ⊎_elim, add-zero, mod-eq_of_lt, arith}
+use Rattle.std.proofs.Common.{◌≡◌, ℕ, ◌+◌, ◌*◌, ◌/◌, ◌%◌, ◌^◌, ◌<◌, ◌≤◌, eqb, List, [], ◌∷◌, ◌++◌, map, length, get_or, take, sym, refl, ap, ◌∙◌, subst, ⊎_elim, mod-eq_of_lt, arith}
 use native.Mathlib.Nat.{pow-le-pow_left, pow-le-pow_right, div-eq_of_lt, div-lt_self}
 use Rattle.std.specs.Int.Digits.{number_from_digits, digits_of, AllBelowBase}
 use Rattle.std.proofs.lemmas.Int.Digits.{number_digits_of, all_below_base_digits_of, number_push, number_lt, digits_of_step, length-digits_of-le}
 use Rattle.std.proofs.lemmas.Nat.{le-div}
 use Rattle.std.proofs.ByRecursion.{All-get_or, All-push}
-use Rattle.std.proofs.lemmas.List.{length-append, length-map, map_push, get_or-map, take_more}
+use Rattle.std.proofs.lemmas.List.{append_assoc, length-append, length-map, map_push, get_or-map, take_more}
+use Rattle.std.proofs.lemmas.Bool.Decides.{nat_tests}
 use Rattle.std.proofs.lemmas.Bool.{cases_eq, cond-true, cond-false, eq-eqb, ne_eqb}
-use Rattle.lines.specs.declared.number.Base.{Base}
-use Rattle.lines.specs.declared.number.Base.TheVariants.{Decimal, Hexadecimal}
-use Rattle.lines.specs.Buffer.{put}
-use Rattle.lines.specs.Number.{base_number, digit, IsDigit, Writes, text_of}
-use Rattle.lines.proofs.Buffers.{Ahead, put_none}
-
-pub base_most : (b : Base) → base_number b ≤ 16
-base_most Decimal = omega arith
-base_most Hexadecimal = omega arith
-
-pub base_least : (b : Base) → 2 ≤ base_number b
-base_least Decimal = omega arith
-base_least Hexadecimal = omega arith
+use Rattle.lines.specs.Number.{digit, IsDigit, Writes, text_of}
+use Rattle.lines.specs.Reply.{field}
 
 -- ---- reading
 
@@ -29,9 +19,6 @@ pub record Begun (base : ℕ) (front : List ℕ) (x : ℕ) : Type 0 where
   pub under : AllBelowBase base digits
   pub spelled : front ≡ map digit digits
   pub value : x ≡ number_from_digits base digits
-
-pub begun_none : (base : ℕ) → Begun base [] 0
-begun_none base = record { digits = []; under = tt; spelled = refl; value = refl }
 
 module _ {base : ℕ} {front : List ℕ} {x : ℕ} (so : Begun base front x) where
   begun_count : length so.digits ≡ length front
@@ -58,16 +45,6 @@ module _ {base : ℕ} {front : List ℕ} {x : ℕ} (so : Begun base front x) whe
 
   pub begun_product : 0 < base → base ≤ 16 → length front < 11 → x * base < 2 ^ 44
   begun_product some small few = omega (arith, begun_below (digit 0) 0 (some, refl) small few)
-
-  pub begun_all : (most : ℕ) → 0 < length front → length front ≤ most → Writes base most front x
-  begun_all most some few = record {
-    digits = so.digits;
-    under = so.under;
-    spelled = so.spelled;
-    some = omega (arith, begun_count);
-    few = omega (arith, begun_count);
-    value = so.value;
-  }
 
 pub begun_more : {base : ℕ} {x : ℕ} (text : List ℕ) (i : ℕ) → Begun base (take i text) x → (d : ℕ) → i < length text → IsDigit base (get_or text i 0) d → Begun base (take (i + 1) text) (x * base + d)
 begun_more {base} {x} text i so d l is = subst (λ (f : List ℕ). Begun base f (x * base + d)) (sym (take_more text i 0 l)) (begun_push so (get_or text i 0) d is)
@@ -122,9 +99,6 @@ text_more b x two high =
     text_some b x h ∙ ap (map digit) (digits_of_step b x two h) ∙ map_push digit (digits_of b (x / b)) (x % b)
     ∙ ap (λ (t : List ℕ). t ++ digit (x % b) ∷ []) (sym (text_some b (x / b) above))
 
-pub count_one : (b x : ℕ) → 2 ≤ b → x < b → length (text_of b x) ≡ 1
-count_one b x two low = ap length (text_one b x two low)
-
 pub count_more : (b x : ℕ) → 2 ≤ b → b ≤ x → length (text_of b x) ≡ length (text_of b (x / b)) + 1
 count_more b x two high = ap length (text_more b x two high) ∙ length-append (text_of b (x / b)) (digit (x % b) ∷ [])
 
@@ -134,21 +108,24 @@ count_most b k x two some low =
     ⊎_elim (λ e. omega (arith, ap length (cond-true (eqb x 0) (digit 0 ∷ []) (map digit (digits_of b x)) (eq-eqb x 0 e))))
     (λ ne. omega (arith, ap length (text_some b x (omega arith)), length-map (digits_of b x) digit, length-digits_of-le b k x two low)) (cases_eq x 0)
 
-pub count_word : (b x : ℕ) → 2 ≤ b → x < 2 ^ 64 → length (text_of b x) ≤ 64
-count_word b x two low = count_most b 64 x two (omega arith) (omega (arith, pow-le-pow_left two 64))
-
 pub above_less : (b x : ℕ) → 2 ≤ b → b ≤ x → x / b < x
 above_less b x two high = div-lt_self (omega arith) (omega arith)
 
--- where the digits above the last one stand in the buffer, or there are none
-module _ (b x : ℕ) (two : 2 ≤ b) (before : List ℕ) (at : ℕ) (mid : List ℕ) (last : ℕ) where
-  pub ahead_more : b ≤ x → (y : ℕ) → y ≡ x / b → mid ≡ put before at (text_of b y) → last ≡ at + length (text_of b y) → Ahead before at (text_of b x) (digit (x % b)) mid last
-  ahead_more high y is there place = record {
-    front = text_of b y;
-    there = there;
-    place = place;
-    whole = text_more b x two high ∙ ap (λ (n : ℕ). text_of b n ++ digit (x % b) ∷ []) (sym is);
-  }
+-- a line with a number behind a space is longer by 20 or 16 digits at most, and the space
+pub behind_decimal : (line : List ℕ) (x : ℕ) → x < 2 ^ 64 → length (line ++ field 10 x) ≤ length line + 21
+behind_decimal line x low = omega (arith, length-append line (field 10 x), count_most 10 20 x (omega arith) (omega arith) (omega arith))
 
-  pub ahead_none : x < b → mid ≡ before → last ≡ at → Ahead before at (text_of b x) (digit (x % b)) mid last
-  ahead_none low there place = record { front = []; there = there ∙ put_none before at; place = place ∙ sym (add-zero at); whole = text_one b x two low }
+pub behind_hexadecimal : (line : List ℕ) (x : ℕ) → x < 2 ^ 64 → length (line ++ field 16 x) ≤ length line + 17
+behind_hexadecimal line x low = omega (arith, length-append line (field 16 x), count_most 16 16 x (omega arith) (omega arith) (omega arith))
+
+pub digit_ascii : (d : ℕ) → d < 16 → digit d < 128
+digit_ascii d low = grind (arith, nat_tests)
+
+-- a text ends in the digits of a number once its last one is behind those above, or behind none
+module _ (b x : ℕ) (two : 2 ≤ b) (front before : List ℕ) where
+  pub last_behind : b ≤ x → before ≡ front ++ text_of b (x / b) → before ++ digit (x % b) ∷ [] ≡ front ++ text_of b x
+  last_behind high e =
+      ap (λ (t : List ℕ). t ++ digit (x % b) ∷ []) e ∙ append_assoc front (text_of b (x / b)) (digit (x % b) ∷ []) ∙ ap (λ (t : List ℕ). front ++ t) (sym (text_more b x two high))
+
+  pub last_alone : x < b → before ≡ front → before ++ digit (x % b) ∷ [] ≡ front ++ text_of b x
+  last_alone low e = ap (λ (t : List ℕ). t ++ digit (x % b) ∷ []) e ∙ ap (λ (t : List ℕ). front ++ t) (sym (text_one b x two low))

@@ -1,5 +1,5 @@
 -- How long a reply is, and that a buffer is left one outcome.
-use Rattle.std.proofs.Common.{◌≡◌, ℕ, ◌+◌, ◌^◌, ◌<◌, ◌≤◌, List, [], ◌∷◌, ◌++◌, length, get_or, drop, codes, sym, refl, ap, ◌∙◌, subst, inl, inr, ⊎_elim, zero-add, arith}
+use Rattle.std.proofs.Common.{◌≡◌, ℕ, ◌^◌, ◌<◌, ◌≤◌, List, [], ◌∷◌, ◌++◌, length, get_or, drop, codes, sym, refl, ap, ◌∙◌, inl, inr, ⊎_elim, arith}
 use Rattle.std.specs.List.{AllByRecursion}
 use Rattle.std.proofs.ByRecursion.{All-append, All-weaker}
 use Rattle.std.proofs.lemmas.List.{append_assoc, append_cancel_right, length-append}
@@ -12,11 +12,9 @@ use Rattle.codes.specs.Fault.{number, fault, test}
 use Rattle.codes.proofs.Faults.{Decided, one_transition, same_fault}
 use Rattle.lines.specs.declared.reply.Reply.{Reply}
 use Rattle.lines.specs.declared.reply.Reply.TheVariants.{Settled, Gap, Cleared, Refused}
-use Rattle.lines.specs.Buffer.{Put}
 use Rattle.lines.specs.Number.{text_of}
 use Rattle.lines.specs.Reply.{line_feed, field, reply_words, reply_text, text_fits, OneWriting, Told}
 use Rattle.lines.specs.Token.{space, NoSpace}
-use Rattle.lines.proofs.Buffers.{front_room, next_room, put_next, put_front}
 use Rattle.lines.proofs.Numbers.{count_most, text_writes}
 use Rattle.lines.proofs.Tokens.{same_cut, same_text_of, writes_high, writes_no_space}
 
@@ -72,81 +70,6 @@ short_reply (Settled p m e) so =
 short_reply (Gap p) so = simp length-append (omega (arith, place_short p so))
 short_reply Cleared so = omega arith
 short_reply (Refused c) so = simp length-append (omega (arith, place_short (number c) (omega (arith, cause_below c))))
-
--- ---- the parts of a reply, put one after the other
-
-pub settled_length : (reply : Reply) (p m e : ℕ) → reply ≡ Settled p m e → length (reply_words reply) ≡ 2 + length (field 10 p) + length (field 16 m) + length (field 16 e)
-settled_length reply p m e is =
-    ap (λ (r : Reply). length (reply_words r)) is ∙ length-append (codes "OK" ++ field 10 p ++ field 16 m) (field 16 e)
-    ∙ ap (λ (n : ℕ). n + length (field 16 e)) (length-append (codes "OK" ++ field 10 p) (field 16 m) ∙ ap (λ (n : ℕ). n + length (field 16 m)) (length-append (codes "OK") (field 10 p)))
-
--- what was put of a reply is put of the same under another name
-same_put : {reply same : Reply} → reply ≡ same → {before after : List ℕ} {end : ℕ} → Put before 0 (reply_words same) after end → Put before 0 (reply_words reply) after end
-same_put is {before} {after} {end} so = subst (λ (r : Reply). Put before 0 (reply_words r) after end) (sym is) so
-
--- a word that settled: the place, the message and the pattern
-module _ {reply : Reply} (before : List ℕ) (p m e : ℕ) (is : reply ≡ Settled p m e) (room : length (reply_words reply) ≤ length before) where
-  room₃ : 0 + length (codes "OK" ++ field 10 p ++ field 16 m ++ field 16 e) ≤ length before
-  room₃ = omega (arith, room, ap (λ (r : Reply). length (reply_words r)) is)
-
-  room₂ : 0 + length (codes "OK" ++ field 10 p ++ field 16 m) ≤ length before
-  room₂ = front_room 0 (codes "OK" ++ field 10 p ++ field 16 m) (field 16 e) (length before) room₃
-
-  room₁ : 0 + length (codes "OK" ++ field 10 p) ≤ length before
-  room₁ = front_room 0 (codes "OK" ++ field 10 p) (field 16 m) (length before) room₂
-
-  module _ {mid₁ : List ℕ} {end₁ : ℕ} (one : Put before 0 (codes "OK") mid₁ end₁) where
-    pub place_room : end₁ + length (field 10 p) ≤ length mid₁
-    place_room = next_room one (field 10 p) room₁
-
-    module _ {mid₂ : List ℕ} {end₂ : ℕ} (two : Put mid₁ end₁ (field 10 p) mid₂ end₂) where
-      pub message_room : end₂ + length (field 16 m) ≤ length mid₂
-      message_room = next_room (put_next one (field 10 p) room₁ two) (field 16 m) room₂
-
-      module _ {mid₃ : List ℕ} {end₃ : ℕ} (three : Put mid₂ end₂ (field 16 m) mid₃ end₃) where
-        first_three : Put before 0 (codes "OK" ++ field 10 p ++ field 16 m) mid₃ end₃
-        first_three = put_next (put_next one (field 10 p) room₁ two) (field 16 m) room₂ three
-
-        pub pattern_room : end₃ + length (field 16 e) ≤ length mid₃
-        pattern_room = next_room first_three (field 16 e) room₃
-
-        pub settled_put : {after : List ℕ} {end : ℕ} → Put mid₃ end₃ (field 16 e) after end → Put before 0 (reply_words reply) after end
-        settled_put four = same_put is (put_next first_three (field 16 e) room₃ four)
-
--- a gap: its place
-module _ {reply : Reply} {before : List ℕ} (p : ℕ) (is : reply ≡ Gap p) (room : length (reply_words reply) ≤ length before) {mid : List ℕ} {between : ℕ} (one : Put before 0 (codes "GAP") mid between) where
-  gap_fits : 0 + length (codes "GAP" ++ field 10 p) ≤ length before
-  gap_fits = omega (arith, room, ap (λ (r : Reply). length (reply_words r)) is)
-
-  pub gap_room : between + length (field 10 p) ≤ length mid
-  gap_room = next_room one (field 10 p) gap_fits
-
-  pub gap_put : {after : List ℕ} {end : ℕ} → Put mid between (field 10 p) after end → Put before 0 (reply_words reply) after end
-  gap_put two = same_put is (put_next one (field 10 p) gap_fits two)
-
--- a refusal: the number of its cause
-module _ {reply : Reply} {before : List ℕ} (c : Cause) (is : reply ≡ Refused c) (room : length (reply_words reply) ≤ length before) {mid : List ℕ} {between : ℕ} (one : Put before 0 (codes "NO") mid between) where
-  refusal_fits : 0 + length (codes "NO" ++ field 10 (number c)) ≤ length before
-  refusal_fits = omega (arith, room, ap (λ (r : Reply). length (reply_words r)) is)
-
-  pub refusal_room : between + length (field 10 (number c)) ≤ length mid
-  refusal_room = next_room one (field 10 (number c)) refusal_fits
-
-  pub refusal_put : {after : List ℕ} {end : ℕ} → Put mid between (field 10 (number c)) after end → Put before 0 (reply_words reply) after end
-  refusal_put two = same_put is (put_next one (field 10 (number c)) refusal_fits two)
-
--- the line feed behind the words
-module _ (reply : Reply) {before : List ℕ} (room : length (reply_text reply) ≤ length before) {mid : List ℕ} {between : ℕ} (words : Put before 0 (reply_words reply) mid between) where
-  line_fits : 0 + length (reply_text reply) ≤ length before
-  line_fits = omega (arith, room)
-
-  pub feed_room : between + 1 ≤ length mid
-  feed_room = next_room words (line_feed ∷ []) line_fits
-
-  pub line_put : {after : List ℕ} {end : ℕ} → Put mid between (line_feed ∷ []) after end → (end ≡ length (reply_text reply)) × (after ≡ reply_text reply ++ drop (length (reply_text reply)) before)
-  line_put feed =
-      let all = put_next words (line_feed ∷ []) line_fits feed in
-      (all.ends ∙ zero-add (length (reply_text reply)), put_front all)
 
 -- ---- replies are told apart by their lines
 

@@ -1,9 +1,9 @@
 -- Where a text is cut, and that it is cut there only.
-use Rattle.std.proofs.Common.{◌≡◌, ℕ, zero, suc, ◌+◌, ◌<◌, ◌≤◌, ltb, ◌⊎◌, List, [], ◌∷◌, ◌++◌, map, length, get_or, take, drop, sym, refl, ap, ◌∙◌, subst, inl, inr, ⊎_elim, arith}
+use Rattle.std.proofs.Common.{◌≡◌, ℕ, zero, suc, ◌+◌, ◌≤◌, ltb, ◌⊎◌, List, [], ◌∷◌, ◌++◌, map, length, get_or, drop, sym, refl, ap, ◌∙◌, subst, inl, inr, ⊎_elim, arith}
 use Rattle.std.specs.Int.Digits.{AllBelowBase, number_from_digits}
 use Rattle.std.specs.List.{AllByRecursion}
-use Rattle.std.proofs.ByRecursion.{All-from_get_or, All-map, All-weaker}
-use Rattle.std.proofs.lemmas.List.{length-map, length-take-le, get_or-take, take-append-drop, drop_more}
+use Rattle.std.proofs.ByRecursion.{All-map, All-weaker}
+use Rattle.std.proofs.lemmas.List.{length-map}
 use Rattle.std.proofs.lemmas.Bool.{cases_eq, cases_lt, cond_both}
 use Rattle.std.proofs.lemmas.Bool.Decides.{nat_tests}
 use Rattle.lines.specs.Number.{digit, IsDigit, Writes, text_of}
@@ -11,15 +11,6 @@ use Rattle.lines.specs.Token.{space, NoSpace}
 use Rattle.lines.proofs.Numbers.{writes_count, text_writes}
 
 -- ---- the first space
-
-pub none_before : (text : List ℕ) (at : ℕ) → at ≤ length text → ((k : ℕ) → k < at → get_or text k 0 ≡ space → ⊥) → NoSpace (take at text)
-none_before text at l none =
-    All-from_get_or (λ b. b ≡ space → ⊥) (take at text) 0
-    (λ i low e. let low' : i < at = omega (arith, length-take-le at text l) in none i low' (sym (get_or-take at text i 0 low') ∙ e))
-
-pub cut_there : (text : List ℕ) (at : ℕ) → at < length text → get_or text at 0 ≡ space → text ≡ take at text ++ space ∷ drop (at + 1) text
-cut_there text at l is =
-    sym (take-append-drop at text) ∙ ap (λ (x : List ℕ). take at text ++ x) (drop_more text at 0 l ∙ ap (λ (b : ℕ). b ∷ drop (at + 1) text) is)
 
 -- a text with no space is not cut
 pub not_cut : (text place word : List ℕ) → NoSpace text → text ≡ place ++ space ∷ word → ⊥

@@ -1,4 +1,3 @@
-pub mod Buffer
 pub mod Number
 pub mod Token
 pub mod Command

@@ -5,10 +5,17 @@ use Rattle.codes.specs.declared.fault.Fault.{Fault}
 use Rattle.codes.specs.declared.fault.Layer.TheVariants.{Table}
 use Rattle.codes.specs.Fault.{number, Test, test, Transition}
 use Rattle.codes.specs.Meaning.{One}
+use Rattle.link.specs.declared.receiver.Answer.{Answer}
+use Rattle.link.specs.declared.receiver.Answer.TheVariants.{Settled as settled_at, Gap as gap_at}
 use Rattle.lines.specs.declared.reply.Reply.{Reply}
 use Rattle.lines.specs.declared.reply.Reply.TheVariants.{Settled, Gap, Cleared, Refused}
 use Rattle.lines.specs.Number.{text_of}
 use Rattle.lines.specs.Token.{space}
+
+-- the reply to what the receiver answered
+abbrev pub reply_to : Answer → Reply
+reply_to (settled_at p a e) = Settled p a e
+reply_to (gap_at p) = Gap p
 
 abbrev pub line_feed : ℕ
 line_feed = 10

@@ -31,11 +31,7 @@ fn read_repeat(tail: &[u8]) -> Option<Call>
 fn read_clear(tail: &[u8]) -> Option<Call>
     ensures { Finds (67 ∷ tail.now) result }
 {
-    if tail.is_empty() {
-        Some(Call::Clear)
-    } else {
-        None
-    }
+    tail.is_empty().then_some(Call::Clear)
 }
 
 /// The command that a line stands for, absent where there is none. Its first letter says which.
@@ -62,8 +58,5 @@ pub fn read_command(line: &[u8]) -> Result<Call, Fault>
     ensures law { Grammar }
 {
     grammar();
-    match find_command(line) {
-        Some(call) => Ok(call),
-        None => Err(Fault::new(Cause::BadLine)),
-    }
+    find_command(line).ok_or(Fault::new(Cause::BadLine))
 }

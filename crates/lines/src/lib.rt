@@ -3,6 +3,7 @@
 
 pub mod command;
 pub mod heading;
+mod line;
 mod number;
 pub mod reply;
 mod token;

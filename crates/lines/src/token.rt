@@ -1,6 +1,6 @@
 //! The parts of a line, which borrow from it.
-ghost use Rattle.std.specs.Prelude.{◌≡◌, ℕ, ◌<◌, ◌≤◌, length, MatchOption, ◌≢◌, slice_index};
-ghost use Rattle.lines.specs.Token.{space, TokenWrites, AfterSpace, CutAtSpace};
+ghost use Rattle.std.specs.Prelude.{ℕ, MatchOption};
+ghost use Rattle.lines.specs.Token.{TokenWrites, AfterSpace, CutAtSpace};
 
 use crate::number::{Base, read_number};
 
@@ -32,34 +32,13 @@ impl Token<'_> {
 pub(crate) fn after_space(text: &[u8]) -> Option<&[u8]>
     ensures { AfterSpace text.now result }
 {
-    match text.split_first() {
-        Some((b' ', rest)) => Some(rest),
-        _ => None,
-    }
-}
-
-/// The index of the first space, or the length where there is none.
-fn find_space(text: &[u8]) -> usize
-    ensures within { result ≤ length text.now }
-    ensures before { (k : ℕ) → k < result → slice_index text.now k ≢ space }
-    ensures found { result < length text.now → slice_index text.now result ≡ space }
-{
-    for (i, byte) in text.iter().enumerate() {
-        if *byte == b' ' {
-            return i;
-        }
-    }
-    text.len()
+    text.strip_prefix(b" ")
 }
 
 /// What stands before the first space of a text, and what follows it, absent where there is no space.
 pub(crate) fn cut_at_space(text: &[u8]) -> Option<(&[u8], &[u8])>
     ensures { CutAtSpace text.now result }
 {
-    let at = find_space(text);
-    if at < text.len() {
-        Some((&text[0..at], &text[at + 1..]))
-    } else {
-        None
-    }
+    let at = text.iter().position(|byte| *byte == b' ')?;
+    Some((&text[..at], &text[at + 1..]))
 }

@@ -1,19 +1,19 @@
 //! A listing that is open: each line is a command, and gets a line for its answer.
-ghost use Rattle.std.specs.Prelude.{◌≡◌, ◌<◌, ◌≤◌, [], length, MatchBool};
+ghost use Rattle.std.specs.Prelude.{◌≡◌, ◌≤◌, [], length};
 ghost use Rattle.lines.specs.Command.{Grammar};
 ghost use Rattle.lines.specs.Heading.{Headings};
 ghost use Rattle.lines.specs.Reply.{reply_text};
 ghost use Rattle.listings.specs.Choice.{named};
 ghost use Rattle.listings.specs.Conversation.{KeepsBook};
 ghost use Rattle.listings.specs.Listing.{meaning_in, places_in, flips_in, held_in, Opens, Replied, Lined, OneLine};
-ghost use Rattle.listings.specs.Steps.{reply_to, reply_for};
+ghost use Rattle.listings.specs.Steps.{reply_for};
 
 use crate::choice::Choice;
 use codes::fault::Fault;
 use lines::command::read_command;
 use lines::heading::{Heading, read_heading};
 use lines::reply::{Reply, too_short};
-use link::receiver::{Answer, Receiver};
+use link::receiver::Receiver;
 use runs::calls::Call;
 
 /// The receiver that the lines speak to.
@@ -24,31 +24,6 @@ pub struct Listing {
 
 /// The longest reply takes 31 bytes.
 const ROOM: usize = 32;
-
-/// Whether a buffer has room for any reply.
-fn has_room(buffer: &[u8]) -> bool
-    ensures { MatchBool result (32 ≤ length buffer.now) (length buffer.now < 32) }
-{
-    buffer.len() >= ROOM
-}
-
-/// The reply to a word that was heard.
-fn reply_to(answer: Answer) -> Reply
-    ensures { result ≡ reply_to answer }
-{
-    match answer {
-        Answer::Settled {
-            place,
-            message,
-            pattern,
-        } => Reply::Settled {
-            place,
-            message,
-            pattern,
-        },
-        Answer::Gap { place } => Reply::Gap { place },
-    }
-}
 
 impl Listing {
     /// A listing that has heard nothing, over the code that a heading names.
@@ -77,34 +52,22 @@ impl Listing {
         ensures same { self.new.receiver.code ≡ self.old.receiver.code }
     {
         match read_command(line)? {
-            Call::Offer { word } => Ok(reply_to(self.receiver.offer(word)?)),
-            Call::Repeat { place, word } => Ok(reply_to(self.receiver.repeat(place, word)?)),
+            Call::Offer { word } => self.receiver.offer(word).map(Reply::from),
+            Call::Repeat { place, word } => self.receiver.repeat(place, word).map(Reply::from),
             Call::Clear => {
                 self.receiver.clear();
                 Ok(Reply::Cleared)
             }
         }
     }
-}
 
-/// The reply to a command that was carried out or refused.
-fn reply_for(outcome: Result<Reply, Fault>) -> Reply
-    ensures { result ≡ reply_for outcome }
-{
-    match outcome {
-        Ok(reply) => reply,
-        Err(fault) => Reply::Refused(fault.cause),
-    }
-}
-
-impl Listing {
     /// The reply to a line, which is always short.
     fn answer(&mut self, line: &[u8]) -> Reply
         ensures replied { Replied (meaning_in self.old) line.now (held_in self.old) result (held_in self.new) }
         ensures same { self.new.receiver.code ≡ self.old.receiver.code }
         ensures short { length (reply_text result) ≤ 32 }
     {
-        reply_for(self.carry_out(line))
+        self.carry_out(line).unwrap_or_else(Reply::from)
     }
 
     /// Answers a line, without its line feed: writes the reply to the front of the buffer, with its line feed, and answers its length.
@@ -116,7 +79,7 @@ impl Listing {
         ensures book { KeepsBook }
     {
         line_laws();
-        if !has_room(buffer) {
+        if buffer.len() < ROOM {
             return Err(too_short());
         }
         self.answer(line).write(buffer)

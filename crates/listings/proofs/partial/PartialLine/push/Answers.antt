@@ -4,7 +4,7 @@ use Rattle.listings.proofs.partial.PartialLine.push.Goals as goal
 pub returns-then-self-lt-ROOM : goal.returns-then-self-lt-ROOM
 returns-then-self-lt-ROOM c =
     let line = c.args.self.now in
-    rw (c.keep.ensures.count, c.keep.ensures.bytes) (kept_more line.bytes line.count c.args.byte line.ok.1 c.if-self-lt-ROOM.true)
+    kept_more line.bytes line.count c.args.byte line.ok.1 c.if-self-lt-ROOM.true
 
 pub returns-else-self-lt-ROOM : goal.returns-else-self-lt-ROOM
 returns-else-self-lt-ROOM c =
