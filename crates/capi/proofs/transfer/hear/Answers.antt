@@ -4,7 +4,7 @@ use Rattle.link.specs.Report.{places_of}
 use Rattle.link.specs.Sealed.{Spells}
 use Rattle.listings.specs.Choice.{choice_means}
 use Rattle.capi.specs.Transfer.{HeardAll}
-use Rattle.capi.proofs.transfer.receive.Goals as goal
+use Rattle.capi.proofs.transfer.hear.Goals as goal
 
 pub returns-in_err-offer_all : goal.returns-in_err-offer_all
 returns-in_err-offer_all c =
