@@ -10,6 +10,7 @@ use records::layout::Kind;
 use records::lookup::time_of;
 
 /// The kind of times that C knows by a number: 1 is travel, 2 the doors.
+// The numbers are those of the header, and no other kind has one there.
 fn kind_of_times(number: u32) -> Result<Kind, Refusal>
     ensures { MatchResult result (λ k. (holds_times number ≡ true) × (k ≡ kind_of number)) (λ r. (r ≡ Absent) × (holds_times number ≡ false)) }
 {

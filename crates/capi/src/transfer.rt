@@ -30,12 +30,13 @@ pub extern "C" fn wz_send(code: u32, table: &[u8], words: &mut [u64], count: &mu
 }
 
 /// Offers the words in order, and stops at the first that is refused.
+// The loop of `runs` offers words of a line, each with its flips, and says what arrives; this one says what each offer answers.
 fn offer_all(receiver: &mut Receiver<Choice>, words: &[u64]) -> Result<(), Fault>
     ensures same { receiver.new.code ≡ receiver.old.code }
     ensures heard { HeardAll (choice_means receiver.old.code) (places_of receiver.old.report) words.now result (places_of receiver.new.report) }
 {
     for word in words {
-        let _ = receiver.offer(*word)?;
+        receiver.offer(*word)?;
     }
     Ok(())
 }

@@ -62,7 +62,7 @@ pub struct Record<'a> {
 
 impl<'a> Record<'a> {
     /// The record that bytes begin with, where the first of them stands at a place; absent if it is faulty.
-    pub(crate) fn first_of(bytes: &'a [u8], place: usize) -> Option<Record<'a>>
+    pub(crate) fn at_front(bytes: &'a [u8], place: usize) -> Option<Record<'a>>
         ensures { MatchOption result (CutShort bytes.now ⊎ HalfEntry bytes.now) (Begins bytes.now place) }
     {
         let [size_low, size_high, kind_low, kind_high, rest @ ..] = bytes else {

@@ -36,7 +36,7 @@ impl<'a> Reader<'a> {
         if left.is_empty() {
             return Ok(None);
         }
-        let record = Record::first_of(left, place).ok_or(Fault {
+        let record = Record::at_front(left, place).ok_or(Fault {
             place,
             ..Fault::new(Cause::BadRecord)
         })?;

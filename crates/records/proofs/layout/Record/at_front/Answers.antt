@@ -4,8 +4,8 @@ use Rattle.tables.specs.Stream.{Bytes}
 use Rattle.records.specs.Layout.{two_at, holds_times, kind_of}
 use Rattle.records.specs.Steps.{of_times}
 use Rattle.records.proofs.Framing.{times_of, begins}
-use Rattle.records.proofs.layout.Record.first_of.Goals as goal
-use Rattle.records.proofs.layout.Record.first_of.Goals.{else-holds_times-via-then-holds_times+else-size-eq1, else-holds_times-via-else-holds_times}
+use Rattle.records.proofs.layout.Record.at_front.Goals as goal
+use Rattle.records.proofs.layout.Record.at_front.Goals.{else-holds_times-via-then-holds_times+else-size-eq1, else-holds_times-via-else-holds_times}
 
 pub returns : goal.returns
 returns c =
