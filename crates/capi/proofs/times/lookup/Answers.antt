@@ -1,7 +1,6 @@
 use Rattle.std.proofs.Common.{◌≡◌, ℕ, true, List, Some, None, Ok, Err, Option, Result, refl, ap, ◌∙◌, subst, inl}
 use Rattle.std.specs.Option.{ok_or}
 use Rattle.std.proofs.lemmas.Result.{err_from_is_err_and}
-use Rattle.codes.specs.declared.fault.Fault.{Fault}
 use Rattle.records.specs.declared.layout.Kind.{Kind}
 use Rattle.records.specs.Layout.{kind_of, holds_times}
 use Rattle.records.specs.Lookup.{LookedUp}
