@@ -6,7 +6,7 @@ use Rattle.codes.specs.Interface.{Corrected}
 use Rattle.codes.specs.Meaning.{Meaning}
 use Rattle.codes.specs.Slots.{Filled}
 use Rattle.codes.specs.Slots.{answered as answered_slot}
-use Rattle.codes.proofs.InPlace.{replaced_none, replaced_more}
+use Rattle.codes.proofs.InPlace.{replaced_more}
 use Rattle.capi.specs.declared.lists.WzSlot.{WzSlot}
 use Rattle.capi.specs.Lists.{slot, answered, FilledTo}
 use Rattle.capi.specs.Steps.{slot_as_c}
@@ -24,17 +24,9 @@ filled_to m fresh filled before after word (r, corrected, e) as_c =
 abbrev blank : WzSlot
 blank = slot 0 0 0 0
 
-pub loop-slot-init : goal.loop-slot-init
-loop-slot-init c = replaced_none _ c.args.slots.now
-
 pub loop-slot-preserved : goal.loop-slot-preserved
 loop-slot-preserved c =
     let turn = c.loop-slot in
     let before : WzSlot = get_or turn.slots turn.slot-index blank in
     let filled = filled_to _ c.new.result c.filled.result before c.into.result (ap (λ s. s.word) c.new.ensures) c.filled.ensures c.into.ensures in
     replaced_more _ turn.slot-index c.args.slots.now turn.slots c.into.result blank turn.invariant (omega arith) filled
-
-pub returns : goal.returns
-returns c =
-    let so = c.loop-slot.invariant in
-    record { count = so.count; each = λ p d l. so.done p d (omega arith) l }

@@ -1,11 +1,8 @@
-use Rattle.std.proofs.Common.{Ok, Err, refl, ◌∙◌, arith}
+use Rattle.std.proofs.Common.{Ok, Err, ◌∙◌, arith}
 use Rattle.std.proofs.lemmas.Result.{err_from_is_err_and}
 use Rattle.link.specs.Report.{places_of}
 use Rattle.capi.proofs.Hearing.{heard_more, heard_stop, heard_end}
 use Rattle.capi.proofs.transfer.offer_all.Goals as goal
-
-pub loop-word-init : goal.loop-word-init
-loop-word-init c = (refl, λ r after h. h)
 
 pub loop-word-preserved : goal.loop-word-preserved
 loop-word-preserved c =
