@@ -15,6 +15,10 @@ name_number G23 = 0
 name_number Q31 = 1
 name_number Q41 = 2
 
+-- no name has the number
+abbrev pub NamesNone : ℕ → Type 0
+NamesNone number = (n : Name) → name_number n ≢ number
+
 -- the parity layer adds 4
 abbrev pub code_number : Heading → ℕ
 code_number h = name_number h.name + cond h.parity 4 0

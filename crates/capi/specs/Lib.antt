@@ -3,3 +3,4 @@ pub mod Words
 pub mod Lists
 pub mod Times
 pub mod Transfer
+pub mod Steps

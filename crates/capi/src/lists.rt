@@ -1,11 +1,13 @@
 //! Correcting a list.
-ghost use Rattle.std.specs.Prelude.{◌≡◌};
+ghost use Rattle.std.specs.Prelude.{◌≡◌, Ok, Err};
 ghost use Rattle.listings.specs.Choice.{choice_means};
+ghost use Rattle.capi.specs.declared.boundary.Refusal.TheVariants.{UnknownCode};
 ghost use Rattle.capi.specs.Boundary.{OverCode};
-ghost use Rattle.capi.specs.Lists.{FilledTo, ListedTo};
+ghost use Rattle.capi.specs.Lists.{ListedTo};
+ghost use Rattle.capi.specs.Steps.{Over, slot_as_c};
 
-use crate::boundary::{UNKNOWN_CODE, pick};
-use codes::interface::Code;
+use crate::boundary::{Refusal, answer, pick};
+use codes::slots::Slot;
 use listings::choice::Choice;
 
 /// A slot as C sees it: the verdict is 0 or the number of the refusal.
@@ -18,24 +20,16 @@ pub struct WzSlot {
     pub pattern: u64,
 }
 
-/// The slot with its word corrected.
-fn filled(code: &Choice, slot: WzSlot) -> WzSlot
-    ensures { FilledTo (choice_means code.now) slot result }
-{
-    let word = slot.word;
-    match code.correct(word) {
-        Ok(found) => WzSlot {
-            word,
-            verdict: 0,
-            message: found.message,
-            pattern: found.pattern,
-        },
-        Err(fault) => WzSlot {
-            word,
-            verdict: u64::from(fault.cause.number()),
-            message: 0,
-            pattern: 0,
-        },
+impl From<Slot> for WzSlot {
+    ghost from_gives = { λ slot seen. seen ≡ slot_as_c slot };
+
+    fn from(slot: Slot) -> WzSlot {
+        WzSlot {
+            word: slot.word,
+            verdict: u64::from(slot.number()),
+            message: slot.message,
+            pattern: slot.pattern,
+        }
     }
 }
 
@@ -44,8 +38,17 @@ fn fill_all(code: &Choice, slots: &mut [WzSlot])
     ensures { ListedTo (choice_means code.now) slots.old slots.new }
 {
     for slot in slots.iter_mut() {
-        *slot = filled(code, *slot);
+        *slot = Slot::new(slot.word).filled(code).into();
     }
+}
+
+/// Corrects a list in place, by the code of a number.
+fn correct_list(code: u32, slots: &mut [WzSlot]) -> Result<(), Refusal>
+    ensures listed { Over (λ u. u) code (λ m r. (r ≡ Ok tt) × ListedTo m slots.old slots.new) result }
+    ensures kept { result ≡ Err UnknownCode → slots.new ≡ slots.old }
+{
+    fill_all(&pick(code)?, slots);
+    Ok(())
 }
 
 /// Corrects a list in place. It answers 0 whatever the words are: each slot has a verdict of its own.
@@ -53,11 +56,5 @@ fn fill_all(code: &Choice, slots: &mut [WzSlot])
 pub extern "C" fn wz_correct_list(code: u32, slots: &mut [WzSlot]) -> u32
     ensures { OverCode code (λ m. (result ≡ 0) × ListedTo m slots.old slots.new) slots.old result slots.new }
 {
-    match pick(code) {
-        Some(choice) => {
-            fill_all(&choice, slots);
-            0
-        }
-        None => UNKNOWN_CODE,
-    }
+    answer(correct_list(code, slots), &mut ())
 }

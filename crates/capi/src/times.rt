@@ -1,22 +1,32 @@
 //! Looking up a floor's time.
-ghost use Rattle.capi.specs.Times.{Told, LookedUpTo};
+ghost use Rattle.std.specs.Prelude.{◌≡◌, true, false, MatchResult};
+ghost use Rattle.records.specs.Layout.{kind_of, holds_times};
+ghost use Rattle.capi.specs.declared.boundary.Refusal.TheVariants.{Absent};
+ghost use Rattle.capi.specs.Times.{LookedUpTo};
+ghost use Rattle.capi.specs.Steps.{LooksUp};
 
-use crate::boundary::ABSENT;
-use codes::fault::Fault;
-use records::lookup::{door_time, travel_time};
+use crate::boundary::{Refusal, answer};
+use records::layout::Kind;
+use records::lookup::time_of;
 
-/// Writes a time that is there, and tells C what came of the lookup.
-fn tell(found: Result<Option<u16>, Fault>, time: &mut u32) -> u32
-    ensures { Told found time.old result time.new }
+/// The kind of times that C knows by a number: 1 is travel, 2 the doors.
+// The numbers are those of the header, and no other kind has one there.
+fn kind_of_times(number: u32) -> Result<Kind, Refusal>
+    ensures { MatchResult result (λ k. (holds_times number ≡ true) × (k ≡ kind_of number)) (λ r. (r ≡ Absent) × (holds_times number ≡ false)) }
 {
-    match found {
-        Ok(Some(tenths)) => {
-            *time = u32::from(tenths);
-            0
-        }
-        Ok(None) => ABSENT,
-        Err(fault) => u32::from(fault.cause.number()),
+    match number {
+        1 => Ok(Kind::Travel),
+        2 => Ok(Kind::Door),
+        _ => Err(Refusal::Absent),
     }
+}
+
+/// The time of a floor, by C's number of its kind.
+fn lookup(table: &[u8], kind: u32, floor: u32) -> Result<u32, Refusal>
+    ensures { LooksUp table.now kind floor result }
+{
+    let tenths = time_of(table, kind_of_times(kind)?, floor)?.ok_or(Refusal::Absent)?;
+    Ok(u32::from(tenths))
 }
 
 /// The time of a floor by the number of its kind: 1 is travel, 2 the doors.
@@ -24,9 +34,5 @@ fn tell(found: Result<Option<u16>, Fault>, time: &mut u32) -> u32
 pub extern "C" fn wz_lookup(table: &[u8], kind: u32, floor: u32, time: &mut u32) -> u32
     ensures { LookedUpTo table.now kind floor time.old result time.new }
 {
-    match kind {
-        1 => tell(travel_time(table, floor), time),
-        2 => tell(door_time(table, floor), time),
-        _ => ABSENT,
-    }
+    answer(lookup(table, kind, floor), time)
 }

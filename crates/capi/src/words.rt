@@ -1,13 +1,12 @@
 //! Encoding and correcting.
 ghost use Rattle.std.specs.Prelude.{◌≡◌};
-ghost use Rattle.listings.specs.Choice.{choice_means};
-ghost use Rattle.capi.specs.Boundary.{OverCode, status};
+ghost use Rattle.codes.specs.Interface.{Encoded, Corrected};
+ghost use Rattle.capi.specs.Boundary.{OverCode};
 ghost use Rattle.capi.specs.Words.{EncodedTo, CorrectedTo, as_c};
+ghost use Rattle.capi.specs.Steps.{Over};
 
-use crate::boundary::{UNKNOWN_CODE, number_of, pick};
-use codes::fault::Fault;
+use crate::boundary::{Refusal, answer, pick};
 use codes::interface::{Code, Correction};
-use listings::choice::Choice;
 
 /// A correction as C sees it.
 #[repr(C)]
@@ -18,17 +17,23 @@ pub struct WzCorrection {
     pub pattern: u64,
 }
 
-/// Encodes into a word that is written only where there is no refusal.
-fn encode_into(code: &Choice, message: u64, codeword: &mut u64) -> Result<(), Fault>
-    ensures { EncodedTo (choice_means code.now) message codeword.old (status result) codeword.new }
-{
-    match code.encode(message) {
-        Ok(found) => {
-            *codeword = found;
-            Ok(())
+impl From<Correction> for WzCorrection {
+    ghost from_gives = { λ found seen. seen ≡ as_c found };
+
+    fn from(found: Correction) -> WzCorrection {
+        WzCorrection {
+            codeword: found.codeword,
+            message: found.message,
+            pattern: found.pattern,
         }
-        Err(fault) => Err(fault),
     }
+}
+
+/// The codeword of a message, by the code of a number.
+fn encode(code: u32, message: u64) -> Result<u64, Refusal>
+    ensures { Over (λ v. v) code (λ m. Encoded m message) result }
+{
+    Ok(pick(code)?.encode(message)?)
 }
 
 /// The codeword of a message.
@@ -36,34 +41,14 @@ fn encode_into(code: &Choice, message: u64, codeword: &mut u64) -> Result<(), Fa
 pub extern "C" fn wz_encode(code: u32, message: u64, codeword: &mut u64) -> u32
     ensures { OverCode code (λ m. EncodedTo m message codeword.old result codeword.new) codeword.old result codeword.new }
 {
-    match pick(code) {
-        Some(choice) => number_of(encode_into(&choice, message, codeword)),
-        None => UNKNOWN_CODE,
-    }
+    answer(encode(code, message), codeword)
 }
 
-/// A correction with C's layout.
-fn as_c(found: Correction) -> WzCorrection
-    ensures { result ≡ as_c found }
+/// The correction of a word, by the code of a number.
+fn correct(code: u32, word: u64) -> Result<WzCorrection, Refusal>
+    ensures { Over as_c code (λ m. Corrected m word) result }
 {
-    WzCorrection {
-        codeword: found.codeword,
-        message: found.message,
-        pattern: found.pattern,
-    }
-}
-
-/// Corrects into a correction that is written only where there is no refusal.
-fn correct_into(code: &Choice, word: u64, out: &mut WzCorrection) -> Result<(), Fault>
-    ensures { CorrectedTo (choice_means code.now) word out.old (status result) out.new }
-{
-    match code.correct(word) {
-        Ok(found) => {
-            *out = as_c(found);
-            Ok(())
-        }
-        Err(fault) => Err(fault),
-    }
+    Ok(pick(code)?.correct(word)?.into())
 }
 
 /// The codeword within reach of a word, its message and the pattern.
@@ -71,8 +56,5 @@ fn correct_into(code: &Choice, word: u64, out: &mut WzCorrection) -> Result<(), 
 pub extern "C" fn wz_correct(code: u32, word: u64, out: &mut WzCorrection) -> u32
     ensures { OverCode code (λ m. CorrectedTo m word out.old result out.new) out.old result out.new }
 {
-    match pick(code) {
-        Some(choice) => number_of(correct_into(&choice, word, out)),
-        None => UNKNOWN_CODE,
-    }
+    answer(correct(code, word), out)
 }

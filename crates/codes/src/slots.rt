@@ -33,24 +33,23 @@ impl Slot {
     {
         self.verdict.map_or(0, Cause::number)
     }
-}
 
-/// The slot with its word corrected. A refused word leaves message 0 and pattern 0.
-fn filled<C: Code>(code: &C, slot: Slot) -> Slot
-    ensures { Filled (C.means code.now) slot result }
-{
-    let word = slot.word;
-    match code.correct(word) {
-        Ok(found) => Slot {
-            word,
-            verdict: None,
-            message: found.message,
-            pattern: found.pattern,
-        },
-        Err(fault) => Slot {
-            verdict: Some(fault.cause),
-            ..Slot::new(word)
-        },
+    /// The slot with its word corrected. A refused word leaves message 0 and pattern 0.
+    pub fn filled<C: Code>(self, code: &C) -> Slot
+        ensures { Filled (C.means code.now) self result }
+    {
+        match code.correct(self.word) {
+            Ok(found) => Slot {
+                verdict: None,
+                message: found.message,
+                pattern: found.pattern,
+                ..self
+            },
+            Err(fault) => Slot {
+                verdict: Some(fault.cause),
+                ..Slot::new(self.word)
+            },
+        }
     }
 }
 
@@ -60,6 +59,6 @@ pub fn correct_list<C: Code>(code: &C, slots: &mut [Slot])
     ensures one { OneList }
 {
     for slot in slots.iter_mut() {
-        *slot = filled(code, *slot);
+        *slot = slot.filled(code);
     }
 }

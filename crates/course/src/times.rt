@@ -5,7 +5,8 @@ use codes::fault::Fault;
 use cyclic::Cyclic;
 use cyclic::name::Name;
 use link::report::Place;
-use records::lookup::{door_time, travel_time};
+use records::layout::Kind;
+use records::lookup::time_of;
 use tables::speller::spell;
 
 /// The lowest stop, some above it, and one that the building does not have.
@@ -56,10 +57,10 @@ fn show_time(rt: &impl Print, time: Result<Option<u16>, Fault>) -> anyhow::Resul
 
 fn show_floor(rt: &impl Print, floor: u32, whole: &Buffer, shifted: &Buffer) -> anyhow::Result<()> {
     print!(rt; "  {floor:>5}")?;
-    show_time(rt, travel_time(&whole[0..56], floor))?;
-    show_time(rt, travel_time(&shifted[0..56], floor))?;
-    show_time(rt, door_time(&whole[0..56], floor))?;
-    show_time(rt, door_time(&shifted[0..56], floor))?;
+    for kind in [Kind::Travel, Kind::Door] {
+        show_time(rt, time_of(&whole[0..56], kind, floor))?;
+        show_time(rt, time_of(&shifted[0..56], kind, floor))?;
+    }
     println!(rt; "")?;
     Ok(())
 }

@@ -1,5 +1,5 @@
 -- A lookup leaves one answer: the floor's entry in the first record of the kind.
-use Rattle.std.proofs.Common.{◌≡◌, ℕ, ◌<◌, eqb, ◌⊎◌, List, [], ◌∷◌, ◌++◌, length, Some, None, Ok, Err, Option, Result, sym, refl, ap, ◌∙◌, subst, inl, inr, ⊎_elim, append-nil, arith}
+use Rattle.std.proofs.Common.{◌≡◌, ℕ, ◌<◌, eqb, ◌⊎◌, List, [], ◌∷◌, ◌++◌, length, Some, None, Ok, Err, Option, Result, refl, ap, ◌∙◌, subst, inl, inr, ⊎_elim, append-nil, arith}
 use Rattle.std.specs.List.{slice_get, AllByRecursion}
 use Rattle.std.proofs.lemmas.Bool.{cases_lt, eq-eqb, cond-true}
 use Rattle.codes.specs.declared.fault.Cause.TheVariants.{BadRecord}
@@ -12,7 +12,7 @@ use Rattle.records.specs.declared.layout.Kind.{Kind}
 use Rattle.records.specs.Layout.{Content, kind_number, bytes_of, laid, Sound, Faulty}
 use Rattle.records.specs.Lookup.{entries, first_of, time_at, met_sound, LookedUp, times_record, Entry}
 use Rattle.records.proofs.Meanings.{meaning, front_of, first_means, no_record, same_meaning, laid_means}
-use Rattle.records.proofs.Walking.{first_append, some_not_none}
+use Rattle.records.proofs.Walking.{first_append}
 use Rattle.records.proofs.Entries.{entries_back}
 
 -- the outcome of a lookup, where bytes mean these records and this rest
@@ -28,7 +28,7 @@ sound_decided k rs rest =
     record {
       named = (BadRecord, refl);
       either = ⊎_elim (λ x. inl (inl x)) (λ none. ⊎_elim (λ some. inr (none, some)) (λ empty. inl (inr (omega arith))) (cases_lt 0 (length rest))) (cases_option (first_of k rs));
-      not_both = λ p q. ⊎_elim (λ x. some_not_none x.0 (sym x.1 ∙ q.0)) (λ e. omega (arith, e, q.1)) p;
+      not_both = λ p q. ⊎_elim (λ x. cc (x.1, q.0)) (λ e. omega (arith, e, q.1)) p;
     }
 
 module _ (k : Kind) (floor : ℕ) where
@@ -49,7 +49,7 @@ module _ (k : Kind) (floor : ℕ) where
   -- the first record of the kind decides
   by_first : (rs : List Content) (rest : List ℕ) (x : Content) → first_of k rs ≡ Some x → (r : Result (Option ℕ) Fault) → Answered k floor rs rest r → r ≡ Ok (slice_get (entries x.payload) floor)
   by_first rs rest x e (Ok o) h = ap Ok (h.1 ∙ ap (time_at floor) e)
-  by_first rs rest x e (Err f) h = absurd (⊎_elim (λ a. some_not_none x (sym e ∙ a.0.0)) (λ a. a.1) h)
+  by_first rs rest x e (Err f) h = absurd (⊎_elim (λ a. cc a.0.0) (λ a. a.1) h)
 
   -- no record is of the kind, and none is faulty
   by_none : (rs : List Content) (rest : List ℕ) → first_of k rs ≡ None → rest ≡ [] → (r : Result (Option ℕ) Fault) → Answered k floor rs rest r → r ≡ Ok None
@@ -58,7 +58,7 @@ module _ (k : Kind) (floor : ℕ) where
 
   -- a faulty record comes first
   by_fault : (rs : List Content) (rest : List ℕ) → first_of k rs ≡ None → 0 < length rest → (r : Result (Option ℕ) Fault) → Answered k floor rs rest r → (f : Fault) × (r ≡ Err f) × Reports (met_sound k rs rest) f
-  by_fault rs rest e some (Ok o) h = absurd (⊎_elim (λ x. some_not_none x.0 (sym x.1 ∙ e)) (λ empty. omega (arith, empty, some)) h.0.0)
+  by_fault rs rest e some (Ok o) h = absurd (⊎_elim (λ x. cc x.1) (λ empty. omega (arith, empty, some)) h.0.0)
   by_fault rs rest e some (Err f) h = ⊎_elim (λ a. (f, refl, a.1)) (λ a. absurd a.1) h
 
   found : (before : List Content) (times more : List ℕ) (r : Result (Option ℕ) Fault) → AllByRecursion Sound before → first_of k before ≡ None → Sound (times_record k times)

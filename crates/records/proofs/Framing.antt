@@ -1,12 +1,12 @@
 -- One record at the front of bytes: it is told apart from what follows it, and from a faulty one.
-use Rattle.std.proofs.Common.{◌≡◌, ℕ, suc, ◌+◌, ◌-◌, ◌*◌, ◌/◌, ◌%◌, ◌<◌, ◌≤◌, Bool, true, false, cond, ◌||◌, eqb, ◌⊎◌, List, [], ◌∷◌, ◌++◌, length, get_or, take, drop, sym, refl, ap, ◌∙◌, inl, inr, ⊎_elim, arith, length-append, length-take-le, get_or-drop, get_or-take}
-use Rattle.std.proofs.lemmas.List.{take_at, drop_at, take-append-drop, length-drop, drop-drop}
-use Rattle.std.proofs.lemmas.Bool.{eqb-true, eqb-false, false≢true, cases_lt, cases_Bool}
+use Rattle.std.proofs.Common.{◌≡◌, ℕ, suc, ◌+◌, ◌-◌, ◌*◌, ◌/◌, ◌%◌, ◌<◌, ◌≤◌, Bool, true, false, cond, ◌||◌, eqb, ◌⊎◌, List, [], ◌∷◌, ◌++◌, length, slice_range, take, drop, sym, refl, ap, ◌∙◌, inl, inr, ⊎_elim, arith, length-append, length-take-le, get_or-drop, get_or-take}
+use Rattle.std.proofs.lemmas.List.{take_at, take_all, drop_at, take-append-drop, length-drop}
+use Rattle.std.proofs.lemmas.Bool.{false≢true, cases_lt, cases_Bool}
 use Rattle.tables.specs.Stream.{Bytes}
 use Rattle.records.specs.declared.layout.Kind.TheVariants.{Travel, Door, Other}
 use Rattle.records.specs.declared.layout.Record.{Record}
 use Rattle.records.specs.Layout.{Content, bytes_of, Sound, two_at, holds_times, kind_of, Faulty}
-use Rattle.records.specs.Steps.{Begins, half_entry}
+use Rattle.records.specs.Steps.{Begins, of_times}
 
 abbrev content : ℕ → List ℕ → Content
 content k p = record { kind = k; payload = p }
@@ -106,67 +106,35 @@ judged bs b some =
     (cases_Bool (holds_times (two_at bs 2))))
     (cases_lt (length bs) (4 + two_at bs 0))
 
--- whether a record of times has half an entry, by its kind
-half_by : (b c : Bool) (x s : ℕ) → half_entry (cond b Travel (cond c Door (Other x))) s ≡ true → (b || c ≡ true) × (s % 2 ≡ 1)
-half_by true c x s h = (refl, eqb-true (s % 2) 1 h)
-half_by false true x s h = (refl, eqb-true (s % 2) 1 h)
-half_by false false x s h = absurd (false≢true h)
+-- whether records of a number's kind hold times
+times_by : (b c : Bool) (x : ℕ) → of_times (cond b Travel (cond c Door (Other x))) ≡ b || c
+times_by true c x = refl
+times_by false true x = refl
+times_by false false x = refl
 
-whole_by : (b c : Bool) (x s : ℕ) → half_entry (cond b Travel (cond c Door (Other x))) s ≡ false → b || c ≡ true → s % 2 ≡ 0
-whole_by true c x s h t = let odd = eqb-false (s % 2) 1 h in omega (arith, odd)
-whole_by false true x s h t = let odd = eqb-false (s % 2) 1 h in omega (arith, odd)
-whole_by false false x s h t = absurd (false≢true t)
+pub times_of : (x : ℕ) → of_times (kind_of x) ≡ holds_times x
+times_of x = times_by (eqb x 1) (eqb x 2) x
 
-pub half_entries : (x s : ℕ) → half_entry (kind_of x) s ≡ true → (holds_times x ≡ true) × (s % 2 ≡ 1)
-half_entries x s h = half_by (eqb x 1) (eqb x 2) x s h
+-- what is left behind a place
+pub left_at : (bs : List ℕ) (at : ℕ) → slice_range bs at (length bs) ≡ drop at bs
+left_at bs at = take_all (length bs - at) (drop at bs) (omega (arith, length-drop at bs))
 
-pub whole_entries : (x s : ℕ) → half_entry (kind_of x) s ≡ false → holds_times x ≡ true → s % 2 ≡ 0
-whole_entries x s h t = whole_by (eqb x 1) (eqb x 2) x s h t
-
--- the two bytes at a place of what is left
-pub two_drop : (bs : List ℕ) (p i : ℕ) → two_at (drop p bs) i ≡ two_at bs (p + i)
-two_drop bs p i =
-    let low = get_or-drop p bs i 0 in
-    let high = get_or-drop p bs (i + 1) 0 in
-    let same : p + (i + 1) ≡ p + i + 1 = omega arith in
-    omega (arith, low, high, ap (λ j. get_or bs j 0) same)
-
-two_first : (bs : List ℕ) (p : ℕ) → two_at (drop p bs) 0 ≡ two_at bs p
-two_first bs p = let same : p + 0 ≡ p = omega arith in two_drop bs p 0 ∙ ap (two_at bs) same
-
--- what a record at a place can be found to be
-module _ (bs : List ℕ) (p : ℕ) (inside : p < length bs) where
-  pub cut_head : length bs - p < 4 → Faulty (drop p bs)
-  cut_head h = let len = length-drop p bs in (omega (arith, len), inl (omega (arith, len)))
-
-  pub cut_payload : length bs - p - 4 < two_at bs p → Faulty (drop p bs)
-  cut_payload h = let len = length-drop p bs in (omega (arith, len), inl (omega (arith, len, two_first bs p)))
-
-  pub half_at_end : half_entry (kind_of (two_at bs (p + 2))) (two_at bs p) ≡ true → Faulty (drop p bs)
-  half_at_end h =
-      let len = length-drop p bs in
-      let half = half_entries (two_at bs (p + 2)) (two_at bs p) h in
-      (omega (arith, len), inr (ap holds_times (two_drop bs p 2) ∙ half.0, ap (λ s. s % 2) (two_first bs p) ∙ half.1))
-
-  pub begins : Bytes bs → 4 ≤ length bs - p → two_at bs p ≤ length bs - p - 4 → half_entry (kind_of (two_at bs (p + 2))) (two_at bs p) ≡ false
-      → (found : Record) → found.kind ≡ kind_of (two_at bs (p + 2)) → found.place ≡ p
-      → found.payload.now ≡ take (p + 4 + two_at bs p - (p + 4)) (drop (p + 4) bs) → Begins bs p found
-  begins bytes head room whole found kind place part =
-      let cut : p + 4 + two_at bs p - (p + 4) ≡ two_at bs p = omega arith in
-      let payload : found.payload.now ≡ take (two_at bs p) (drop (p + 4) bs) = rw cut at part in
-      let len = length-drop p bs in
-      let size = two_first bs p in
-      let of_kind = two_drop bs p 2 in
-      let from = starts (drop p bs) (bytes_drop bs p bytes) (omega (arith, len, size)) (λ t. ap (λ s. s % 2) size ∙ whole_entries (two_at bs (p + 2)) (two_at bs p) whole (sym (ap holds_times of_kind) ∙ t)) in
-      let tail : drop 4 (drop p bs) ≡ drop (p + 4) bs = drop-drop 4 p bs in
-      let same : found.payload.now ≡ take (two_at (drop p bs) 0) (drop 4 (drop p bs)) = rw (size, tail) payload in
-      let long : length (take (two_at (drop p bs) 0) (drop 4 (drop p bs))) ≡ two_at bs p =
-      rw (size, tail) (length-take-le (two_at bs p) (drop (p + 4) bs) (omega (arith, length-drop (p + 4) bs))) in
-      record {
-        below = bytes;
-        content = content_at (drop p bs);
-        more = drop (two_at (drop p bs) 0) (drop 4 (drop p bs));
-        sound = from.sound;
-        parts = from.parts;
-        handed = record { kind = kind ∙ sym (ap kind_of of_kind); place = place; payload = same; part = payload ∙ ap (λ s. take s (drop (p + 4) bs)) (sym long) };
-      }
+-- a record that fits in the bytes, and has whole entries if it holds times, is what they begin with
+pub begins : (bs : List ℕ) (place size : ℕ) → Bytes bs → 4 ≤ length bs → size ≡ two_at bs 0 → size ≤ length (slice_range bs 4 (length bs))
+    → (holds_times (two_at bs 2) ≡ true → size % 2 ≡ 0)
+    → (found : Record) → found.kind ≡ kind_of (two_at bs 2) → found.place ≡ place → found.payload.now ≡ slice_range (slice_range bs 4 (length bs)) 0 size → Begins bs place found
+begins bs place size bytes head is room even found kind at payload =
+    let behind = left_at bs 4 in
+    let fits : size ≤ length (drop 4 bs) = rw (← behind) room in
+    let whole : take (size - 0) (drop 4 bs) ≡ take (two_at bs 0) (drop 4 bs) = ap (λ n. take n (drop 4 bs)) (omega (arith, is)) in
+    let from = starts bs bytes (omega (arith, length-drop 4 bs)) (λ t. omega (arith, even t)) in
+    record {
+      below = bytes;
+      content = content_at bs;
+      more = drop (two_at bs 0) (drop 4 bs);
+      sound = from.sound;
+      parts = from.parts;
+      kind = kind;
+      place = at;
+      payload = payload ∙ ap (take (size - 0)) behind ∙ whole;
+    }

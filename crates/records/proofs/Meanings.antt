@@ -1,13 +1,13 @@
 -- All bytes mean one thing: the records that they begin with, and what is left.
-use Rattle.std.proofs.Common.{◌≡◌, ℕ, zero, suc, ◌+◌, ◌≤◌, ◌⊎◌, List, [], ◌∷◌, ◌++◌, length, drop, Some, None, Ok, sym, refl, ap, ◌∙◌, subst, inl, inr, ⊎_elim, append_assoc, append-nil, arith}
+use Rattle.std.proofs.Common.{◌≡◌, ℕ, zero, suc, ◌+◌, ◌≤◌, ◌⊎◌, List, [], ◌∷◌, ◌++◌, length, slice_range, take, drop, Some, None, Ok, sym, refl, ap, ◌∙◌, subst, inl, inr, ⊎_elim, append_assoc, append-nil, arith}
 use Rattle.std.specs.List.{AllByRecursion}
 use Rattle.tables.specs.Stream.{Bytes}
-use Rattle.std.proofs.lemmas.List.{length-append, drop_at, drop-drop, drop_all}
+use Rattle.std.proofs.lemmas.List.{length-append, take_at, drop_at, drop-drop, drop_all}
 use Rattle.records.specs.declared.layout.Record.{Record}
 use Rattle.records.specs.Layout.{Content, bytes_of, laid, Sound, two_at, Faulty, Means, ReadBack}
-use Rattle.records.specs.Reader.{ReadOn}
+use Rattle.records.specs.Reader.{HandedOut, ReadOn}
 use Rattle.records.specs.Steps.{Begins}
-use Rattle.records.proofs.Framing.{same_record, sound_not_faulty, content_at, bytes_drop, judged}
+use Rattle.records.proofs.Framing.{same_record, sound_not_faulty, content_at, bytes_drop, judged, left_at}
 
 pub no_bytes : (bs : List ℕ) → bs ≡ [] → Means bs [] []
 no_bytes bs e = record { parts = e; sound = tt; ends = inl refl }
@@ -99,12 +99,22 @@ reads_back =
 pub ended : (bs : List ℕ) (at : ℕ) → length bs ≤ at → ReadOn bs at (Ok None) at
 ended bs at h = ([], [], no_bytes (drop at bs) (drop_all at bs h), ((inr refl, tt), refl))
 
-pub moved : (bs : List ℕ) (at : ℕ) (found : Record) (after : ℕ) → Begins bs at found → after ≡ found.place + 4 + length found.payload.now → ReadOn bs at (Ok (Some found)) after
-moved bs at found after h e =
+-- what stands behind the head of a record
+payload_part : (bs : List ℕ) (at : ℕ) (x : Content) (more : List ℕ) → drop at bs ≡ bytes_of x ++ more → x.payload ≡ take (length x.payload) (drop (at + 4) bs)
+payload_part bs at x more e =
+    let tail : drop (at + 4) bs ≡ x.payload ++ more = sym (drop-drop 4 at bs) ∙ ap (drop 4) e in
+    sym (take_at x.payload more (length x.payload) refl) ∙ ap (take (length x.payload)) (sym tail)
+
+pub moved : (bs : List ℕ) (at : ℕ) (found : Record) (after : ℕ) → Begins (slice_range bs at (length bs)) at found → after ≡ found.place + 4 + length found.payload.now
+    → ReadOn bs at (Ok (Some found)) after
+moved bs at found after begun e =
+    let h : Begins (drop at bs) at found = subst (λ l. Begins l at found) (left_at bs at) begun in
     let size : ℕ = length (bytes_of h.content) in
-    let next = meaning h.more (subst Bytes (left_behind bs at h.content h.more h.parts) (bytes_drop bs (at + size) h.below)) in (
+    let behind : drop size (drop at bs) ≡ h.more = ap (drop size) h.parts ∙ drop_at (bytes_of h.content) h.more size refl in
+    let next = meaning h.more (subst Bytes behind (bytes_drop (drop at bs) size h.below)) in
+    let handed : HandedOut bs at h.content found = record { kind = h.kind; place = h.place; payload = h.payload; part = h.payload ∙ payload_part bs at h.content h.more h.parts } in (
       h.content ∷ next.0,
       next.1,
       one_more (drop at bs) h.content h.more next.0 next.1 h.sound h.parts next.2,
-      ((inl (omega arith), tt), (h.handed, omega (arith, e, h.handed.place, ap length h.handed.payload))),
+      ((inl (omega arith), tt), (handed, omega (arith, e, h.place, ap length h.payload))),
     )

@@ -1,8 +1,8 @@
 -- Walking along the records of a table until one of a kind is met.
-use Rattle.std.proofs.Common.{◌≡◌, ℕ, ◌+◌, ◌-◌, ◌<◌, Bool, true, false, cond, eqb, List, [], ◌∷◌, ◌++◌, length, drop, Some, None, Ok, Err, sym, refl, ap, ◌∙◌, subst, inl, inr, ⊎_elim, append_assoc, append-nil, arith}
+use Rattle.std.proofs.Common.{◌≡◌, ℕ, ◌+◌, ◌-◌, ◌<◌, Bool, true, false, cond, eqb, List, [], ◌∷◌, ◌++◌, length, drop, Some, None, Ok, Err, Option, sym, refl, ap, ◌∙◌, subst, inl, inr, ⊎_elim, append_assoc, append-nil, arith}
 use Rattle.std.specs.List.{AllByRecursion}
 use Rattle.std.proofs.lemmas.List.{length-append, length-drop}
-use Rattle.std.proofs.lemmas.Bool.{eqb-true, eq-eqb, ne_eqb, cases_Bool, cond-true, cond-false}
+use Rattle.std.proofs.lemmas.Bool.{eqb-true, eq-eqb, ne_eqb, cond-true, cond-false}
 use Rattle.codes.specs.declared.fault.Fault.{Fault}
 use Rattle.records.specs.declared.layout.Kind.{Kind}
 use Rattle.records.specs.declared.layout.Kind.TheVariants.{Travel, Door, Other}
@@ -39,30 +39,16 @@ pub sound_append : (xs ys : List Content) → AllByRecursion Sound xs → AllByR
 sound_append [] ys a b = b
 sound_append (x ∷ xs) ys a b = (a.0, sound_append xs ys a.1 b)
 
-pub some_not_none : {A : Type 0} (x : A) → Some x ≡ None → ⊥
-some_not_none x e = let z : ◌≡◌ {A = ℕ} 0 1 = cc in omega arith
-
--- a record that is not of the kind is passed over
-first_past : (k : Kind) (x : Content) (rs : List Content) → first_of k (x ∷ []) ≡ None → first_of k (x ∷ rs) ≡ first_of k rs
-first_past k x rs e =
-    ⊎_elim
-    (λ t. absurd (some_not_none x (sym (cond-true (eqb x.kind (kind_number k)) (Some x) None t) ∙ e)))
-    (cond-false (eqb x.kind (kind_number k)) (Some x) (first_of k rs))
-    (cases_Bool (eqb x.kind (kind_number k)))
-
--- and the rest of those passed over has none of the kind either
-none_rest : (k : Kind) (x : Content) (rs : List Content) → first_of k (x ∷ rs) ≡ None → (first_of k (x ∷ []) ≡ None) × (first_of k rs ≡ None)
-none_rest k x rs e =
-    ⊎_elim
-    (λ t. absurd (some_not_none x (sym (cond-true (eqb x.kind (kind_number k)) (Some x) (first_of k rs) t) ∙ e)))
-    (λ f. (cond-false (eqb x.kind (kind_number k)) (Some x) None f, sym (cond-false (eqb x.kind (kind_number k)) (Some x) (first_of k rs) f) ∙ e))
-    (cases_Bool (eqb x.kind (kind_number k)))
+-- where none is met, it is not the first, and none of the others
+not_first : {A : Type 0} (b : Bool) (x : A) (o p : Option A) → cond b (Some x) o ≡ None → (cond b (Some x) p ≡ p) × (o ≡ None)
+not_first true x o p e = absurd cc
+not_first false x o p e = (refl, e)
 
 pub first_append : (k : Kind) (xs ys : List Content) → first_of k xs ≡ None → first_of k (xs ++ ys) ≡ first_of k ys
 first_append k [] ys e = refl
 first_append k (x ∷ xs) ys e =
-    let parts = none_rest k x xs e in
-    first_past k x (xs ++ ys) parts.0 ∙ first_append k xs ys parts.1
+    let parts = not_first (eqb x.kind (kind_number k)) x (first_of k xs) (first_of k (xs ++ ys)) e in
+    parts.0 ∙ first_append k xs ys parts.1
 
 -- what all bytes mean, from what those behind the records passed over mean
 module _ (bs : List ℕ) (k : Kind) (at : ℕ) (p : PassedOver bs k at) (rs : List Content) (rest : List ℕ) (m : Means (drop at bs) rs rest) where

@@ -1,6 +1,7 @@
 //! How a record is laid out.
-ghost use Rattle.std.specs.Prelude.{◌≡◌, ◌+◌, ◌^◌, ◌<◌, length};
-ghost use Rattle.records.specs.Layout.{kind_number, kind_of, two_at};
+ghost use Rattle.std.specs.Prelude.{◌≡◌, ◌+◌, ◌^◌, ◌<◌, ◌⊎◌, length, MatchOption};
+ghost use Rattle.records.specs.Layout.{kind_number, kind_of, CutShort, HalfEntry};
+ghost use Rattle.records.specs.Steps.{Begins, of_times};
 
 /// What a record is about.
 #[derive(Clone, Copy, PartialEq, Eq, Debug)]
@@ -14,28 +15,42 @@ pub enum Kind {
 }
 
 impl Kind {
-    /// The kind of a number.
-    pub fn of(number: u16) -> Kind
-        ensures { result ≡ kind_of number }
+    /// Whether records of this kind hold times, of two bytes each.
+    fn holds_times(self) -> bool
+        ensures { result ≡ of_times self }
     {
+        matches!(self, Kind::Travel | Kind::Door)
+    }
+}
+
+/// The kind of a number.
+impl From<u16> for Kind {
+    ghost from_gives = { λ number kind. kind ≡ kind_of number };
+
+    fn from(number: u16) -> Kind {
         match number {
             1 => Kind::Travel,
             2 => Kind::Door,
             _ => Kind::Other(number),
         }
     }
+}
 
-    /// The number by which the kind is known in a table.
-    pub fn number(self) -> u16
-        ensures { result ≡ kind_number self }
-    {
-        match self {
+/// The number by which a kind is known in a table.
+impl From<Kind> for u16 {
+    ghost from_gives = { λ kind number. number ≡ kind_number kind };
+
+    fn from(kind: Kind) -> u16 {
+        match kind {
             Kind::Travel => 1,
             Kind::Door => 2,
             Kind::Other(number) => number,
         }
     }
 }
+
+/// How many bytes stand before a payload: its length and the number of its kind.
+const HEAD: usize = 4;
 
 /// A record: its kind, the place of its first byte, and its payload, which is a part of the table's bytes.
 #[derive(Clone, Copy, PartialEq, Eq, Debug)]
@@ -45,20 +60,32 @@ pub struct Record<'a> {
     pub payload: &'a [u8],
 }
 
-impl Record<'_> {
+impl<'a> Record<'a> {
+    /// The record that bytes begin with, where the first of them stands at a place; absent if it is faulty.
+    pub(crate) fn at_front(bytes: &'a [u8], place: usize) -> Option<Record<'a>>
+        ensures { MatchOption result (CutShort bytes.now ⊎ HalfEntry bytes.now) (Begins bytes.now place) }
+    {
+        let [size_low, size_high, kind_low, kind_high, rest @ ..] = bytes else {
+            return None;
+        };
+        let size = u16::from_le_bytes([*size_low, *size_high]);
+        let kind = Kind::from(u16::from_le_bytes([*kind_low, *kind_high]));
+        if kind.holds_times() && size % 2 == 1 {
+            return None;
+        }
+        let payload = rest.get(..usize::from(size))?;
+        Some(Record {
+            kind,
+            place,
+            payload,
+        })
+    }
+
     /// The place behind the record.
     pub(crate) fn end(self) -> usize
         requires { self.place + 4 + length self.payload.now < 2 ^ 64 }
         ensures { result ≡ self.entry.place + 4 + length self.entry.payload.now }
     {
-        self.place + 4 + self.payload.len()
+        self.place + HEAD + self.payload.len()
     }
-}
-
-/// The number in the two bytes at a place, the lower one first.
-pub(crate) fn two_bytes(bytes: &[u8], at: usize) -> u16
-    requires { at + 1 < length bytes.now }
-    ensures { result ≡ two_at bytes.now at }
-{
-    u16::from(bytes[at]) + 256 * u16::from(bytes[at + 1])
 }

@@ -1,7 +1,7 @@
 //! Records: a table cut at every place, and spoiled in every field.
 use super::*;
 use records::layout::Kind;
-use records::lookup::{door_time, travel_time};
+use records::lookup::time_of;
 use records::reader::Reader;
 
 /// A record of kind 9, travel times of two floors (4.1 s and 6.3 s), and the door time of one (5.5 s).
@@ -454,8 +454,8 @@ fn row_holds(row: Row) -> Result<(), Fail> {
     let (count, refused) = count_records(table);
     check_eq(count, row.records)?;
     check_eq(refused, row.fault.map(|place| at(Cause::BadRecord, place)))?;
-    check_eq(travel_time(table, 1), answer(row.travel))?;
-    check_eq(door_time(table, 0), answer(row.door))
+    check_eq(time_of(table, Kind::Travel, 1), answer(row.travel))?;
+    check_eq(time_of(table, Kind::Door, 0), answer(row.door))
 }
 
 #[test]
@@ -480,8 +480,8 @@ fn handed_out(rt: HostRuntime) -> Result<(), Fail> {
     assert!(rt; second.payload == [41, 0, 63, 0].as_slice());
     assert!(rt; reader.next().err() == Some(at(Cause::BadRecord, 13)));
     assert!(rt; reader.next().err() == Some(at(Cause::BadRecord, 13)));
-    assert_eq!(rt; travel_time(&TABLE, 2), Ok(None));
-    assert_eq!(rt; travel_time(&TABLE, u32::MAX), Ok(None));
-    assert_eq!(rt; door_time(&TABLE, 1), Ok(None));
+    assert_eq!(rt; time_of(&TABLE, Kind::Travel, 2), Ok(None));
+    assert_eq!(rt; time_of(&TABLE, Kind::Travel, u32::MAX), Ok(None));
+    assert_eq!(rt; time_of(&TABLE, Kind::Door, 1), Ok(None));
     Ok(())
 }

@@ -18,10 +18,10 @@ returns-in_err-record c =
     (faulty_next c.args.bytes.now c.args.kind c.loop-record.reader.at c.loop-record.invariant.1 c.next.new.self.at c.in_err-record.field-0.0
     (rw (← c.loop-record.invariant.0) c.in_err-record.ensures.read))
 
-pub returns-then-number : goal.returns-then-number
-returns-then-number c =
+pub returns-then-from : goal.returns-then-from
+returns-then-from c =
     met c.args.bytes.now c.args.kind c.loop-record.reader.at c.loop-record.invariant.1 c.next.new.self.at c.in-Some.record
-    (sym c.number.ensures ∙ c.if-number.true ∙ c.number-in-Some.ensures) (read (goal.at.returns-then-number c).In-Some)
+    (sym c.from.ensures ∙ c.if-from.true ∙ c.from-in-Some.ensures) (read (goal.at.returns-then-from c).In-Some)
 
 pub loop-record-smaller : goal.loop-record-smaller
 loop-record-smaller c =
@@ -32,7 +32,7 @@ pub loop-record-preserved : goal.loop-record-preserved
 loop-record-preserved c = (
   ap (λ b. b.now) c.next.ensures.same ∙ c.loop-record.invariant.0,
   passed_over c.args.bytes.now c.args.kind c.loop-record.reader.at c.loop-record.invariant.1 c.next.new.self.at c.in-Some.record
-      (λ e. c.if-number.false (c.number.ensures ∙ e ∙ sym c.number-in-Some.ensures)) (read (goal.at.loop-record-preserved c).In-Some),
+      (λ e. c.if-from.false (c.from.ensures ∙ e ∙ sym c.from-in-Some.ensures)) (read (goal.at.loop-record-preserved c).In-Some),
 )
 
 pub loop-record-init : goal.loop-record-init
