@@ -41,7 +41,8 @@ fn each_sample<C: Code>(subject: &Subject<C>, samples: usize) -> Result<Tally, W
     Tally::of(
         iter::successors(Some(mixed(SEED)), |word| Some(mixed(*word)))
             .take(samples)
-            .map(|word| subject.answer(word & bits, plain.nearest(word & bits))),
+            .map(|word| word & bits)
+            .map(|word| subject.answer(word, plain.nearest(word))),
     )
 }
 

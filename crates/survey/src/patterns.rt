@@ -1,5 +1,5 @@
 //! Patterns one after another, and mixed words.
-ghost use Rattle.std.specs.Prelude.{◌≡◌, ◌+◌, ◌-◌, ◌*◌, ◌^◌, ◌<◌, ◌≤◌};
+ghost use Rattle.std.specs.Prelude.{◌≡◌, ◌+◌, ◌-◌, ◌*◌, ◌^◌, ◌<◌, ◌≤◌, MatchBool};
 ghost use Rattle.std.specs.Iterator.{at_most};
 
 use std::ops::RangeInclusive;
@@ -16,15 +16,18 @@ pub struct Patterns {
 }
 
 /// A number with this many ones, all lowest.
-pub fn low_ones(count: u32) -> u64 {
+pub fn low_ones(count: u32) -> u64
+    ensures { count < 64 → result + 1 ≡ 2 ^ count }
+{
     1u64.checked_shl(count).unwrap_or(0).wrapping_sub(1)
 }
 
 /// Whether a word has no bit at this place or above.
 pub fn is_within(word: u64, length: u32) -> bool
     requires { length < 64 }
+    ensures { MatchBool result (word < 2 ^ length) (2 ^ length ≤ word) }
 {
-    word >> length == 0
+    word < 1 << length
 }
 
 /// The next greater word with as many ones. Where there is none, the answer is no greater.

@@ -1,5 +1,5 @@
 //! Codes by their numbers alone: answers that owe nothing to the library.
-ghost use Rattle.std.specs.Prelude.{◌≡◌, ◌+◌, ◌<◌, ◌≤◌};
+ghost use Rattle.std.specs.Prelude.{◌≡◌, ◌+◌, ◌^◌, ◌<◌, ◌≤◌, min};
 
 use crate::patterns::{Patterns, SEED, is_within, low_ones, mixed};
 use codes::interface::Correction;
@@ -178,7 +178,9 @@ impl Plain {
     }
 
     /// How many codewords there are, or the number that is asked for if that is less.
-    pub fn codewords(&self, asked: u64) -> u64 {
+    pub fn codewords(&self, asked: u64) -> u64
+        ensures { result ≡ min asked (2 ^ self.now.message_bits) }
+    {
         asked.min(1 << self.message_bits)
     }
 

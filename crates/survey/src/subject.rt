@@ -1,4 +1,6 @@
 //! Codes of the library, each held to its numbers.
+ghost use Rattle.std.specs.Prelude.{◌≡◌, IfOk};
+
 use crate::plain::Plain;
 use crate::wrong::Wrong;
 use codes::fault::{Cause, Fault};
@@ -63,7 +65,9 @@ impl<C: Code> Subject<C> {
     }
 
     /// The answer to a word: this pattern, or a refusal where there is none.
-    pub fn answer(&self, word: u64, expected: Option<u64>) -> Result<Option<u64>, Wrong> {
+    pub fn answer(&self, word: u64, expected: Option<u64>) -> Result<Option<u64>, Wrong>
+        ensures { IfOk result (λ answer. answer ≡ expected) }
+    {
         if self.correct(word)? == expected {
             Ok(expected)
         } else {
