@@ -1,7 +1,7 @@
 //! The table, carried in Q41 words.
 use crate::single::{FIVE, FOUR};
 use crate::stop::{Stop, told};
-use crate::words::{SPOILED, TABLE, WORDS, Words, spelled};
+use crate::words::{ROOM, SPOILED, TABLE, WORDS, Words, spelled};
 use cyclic::Cyclic;
 use link::receiver::{Answer, Receiver};
 use link::report::Place;
@@ -128,8 +128,8 @@ fn both_cases(word: u64) -> Judgement<Cyclic, Cyclic> {
         Call::Offer { word: word ^ FIVE },
         Call::Repeat { place: 0, word },
     ];
-    let mut buffer = [0; 64];
-    let mut other = [0; 64];
+    let mut buffer = [0; ROOM];
+    let mut other = [0; ROOM];
     judge(
         Run {
             code,

@@ -21,7 +21,7 @@ pub const WORDS: usize = 23;
 pub const SPOILED: usize = 17;
 
 /// How many bytes a spelled table may have.
-const ROOM: usize = 64;
+pub const ROOM: usize = 64;
 
 /// A table that was spelled.
 pub type Spelled = ArrayVec<u8, ROOM>;
