@@ -48,6 +48,7 @@ impl<R: Print + Eprint> Survey<'_, R> {
         let [g23, q31, q41] = cyclic().map(|subject| subject.with_parity());
         self.both(&g23)?;
         self.both(&q31)?;
+        // Under 42 bits a word has too many patterns to be tried for each of a sample.
         self.within_reach(&q41)
     }
 

@@ -8,9 +8,10 @@ use std::ops::RangeInclusive;
 #[derive(Drop)]
 pub struct Patterns {
     length: u32,
+    /// The next pattern, and how many flips it has.
+    next: u64,
     flips: u32,
     most: u32,
-    next: u64,
     ghost short: { length < 64 },
     ghost fit: { most ≤ length },
 }
@@ -46,9 +47,9 @@ impl Patterns {
         let fewest = *flips.start();
         Patterns {
             length,
+            next: low_ones(fewest),
             flips: fewest,
             most: length.min(*flips.end()),
-            next: low_ones(fewest),
         }
     }
 }
@@ -56,6 +57,7 @@ impl Patterns {
 impl Iterator for Patterns {
     type Item = u64;
 
+    // A pattern is followed by a greater one of as many flips, or by one of more.
     ghost remaining = { λ s. at_most ((s.most + 1 - s.flips) * 2 ^ 64 - s.next) };
 
     fn next(&mut self) -> Option<u64> {

@@ -8,7 +8,7 @@ pub struct Size {
     /// Codewords under every pattern of at most t flips.
     pub codewords: u64,
     /// Codewords under every class, and under every pattern of t+1 flips.
-    pub few: u64,
+    pub few: u32,
     /// Mixed words for each layer.
     pub samples: usize,
 }

@@ -3,7 +3,7 @@ ghost use Rattle.std.specs.Prelude.{◌≡◌, IfOk};
 
 use crate::plain::Plain;
 use crate::wrong::Wrong;
-use codes::fault::{Cause, Fault};
+use codes::fault::Cause;
 use codes::interface::Code;
 use layers::parity::Parity;
 use layers::shortened::Shortened;
@@ -54,12 +54,7 @@ impl<C: Code> Subject<C> {
             Ok(found) if found == self.plain.correction(word, found.pattern) => {
                 Ok(Some(found.pattern))
             }
-            Err(
-                Fault {
-                    cause: Cause::BeyondReach,
-                    ..
-                },
-            ) => Ok(None),
+            Err(fault) if fault.cause == Cause::BeyondReach => Ok(None),
             _ => Err(self.wrong(word)),
         }
     }
