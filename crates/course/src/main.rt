@@ -2,15 +2,18 @@
 #![tactic(auto)]
 
 mod single;
+mod stop;
 mod table;
 mod times;
+mod words;
 
-fn run(rt: &impl Print) -> anyhow::Result<()> {
-    single::two_cars(rt)?;
-    single::pile(rt)?;
-    table::hotel(rt)?;
-    table::office(rt)?;
-    table::both(rt)
+use crate::stop::told;
+
+fn run(rt: &(impl Print + Drop)) -> anyhow::Result<()> {
+    told(rt, single::two_cars(rt))?;
+    told(rt, single::pile(rt))?;
+    told(rt, table::every_case(rt))?;
+    Ok(())
 }
 
 fn main(rt: HostRuntime) -> anyhow::Result<()> {

@@ -1,6 +1,7 @@
-//! A floor table of twelve stops, carried in Q41 words: travel times and door times, in tenths of a second.
-use crate::single::{FIVE, FOUR, refused};
-use codes::fault::Fault;
+//! The table, carried in Q41 words.
+use crate::single::{FIVE, FOUR};
+use crate::stop::{Stop, told};
+use crate::words::{ROOM, SPOILED, TABLE, WORDS, Words, spelled};
 use cyclic::Cyclic;
 use cyclic::name::Name;
 use link::receiver::{Answer, Receiver};
@@ -8,160 +9,115 @@ use link::report::Place;
 use link::sealed::Sealed;
 use runs::calls::Call;
 use runs::law::{Judgement, Run, Trip, judge};
-use tables::sender::send;
+use std::fmt;
 
-const TABLE: [u8; 56] = [
-    24, 0, 1, 0, 0, 0, 41, 0, 63, 0, 84, 0, 105, 0, 126, 0, 147, 0, 168, 0, 189, 0, 210, 0, 231, 0,
-    252, 0, 24, 0, 2, 0, 55, 0, 40, 0, 35, 0, 35, 0, 35, 0, 35, 0, 35, 0, 35, 0, 35, 0, 35, 0, 35,
-    0, 60, 0,
-];
-
-/// How many words the table takes.
-pub const WORDS: usize = 23;
-
-/// The word that the line spoils.
-const SPOILED: usize = 17;
-
-/// The words of the table.
-pub fn sent() -> Result<[u64; WORDS], Fault> {
-    let mut words = [0; WORDS];
-    let _ = send(&Cyclic::of(Name::Q41), &TABLE, &mut words)?;
-    Ok(words)
+/// The cases of the table, and where they are printed.
+#[derive(Drop)]
+struct Cases<'a, R> {
+    rt: &'a R,
+    words: Words,
 }
 
-/// A receiver that was offered the words, with these bits turned over in the spoiled one.
-fn heard(words: &[u64; WORDS], pattern: u64) -> Result<Receiver<Cyclic>, Fault> {
-    let mut receiver = Receiver::new(Cyclic::of(Name::Q41));
-    for i in 0..WORDS {
-        let flips = if i == SPOILED { pattern } else { 0 };
-        let _ = receiver.offer(words[i] ^ flips)?;
-    }
-    Ok(receiver)
-}
+/// A place of a report, as it is shown.
+#[derive(Drop)]
+struct Shown(Option<Place>);
 
-/// Spells a sealed report, and says whether the table came through.
-fn spell(rt: &impl Print, sealed: &Sealed<Cyclic>) -> anyhow::Result<()> {
-    let mut buffer = [0; 64];
-    match sealed.spell(&mut buffer) {
-        Ok(size) => {
-            let whole = size == 56 && buffer[0..56] == TABLE[0..56];
-            println!(rt; "  spelled: {size} bytes, the table that was sent: {whole}")?;
-            Ok(())
-        }
-        Err(fault) => refused(rt, fault),
-    }
-}
-
-fn close(rt: &impl Print, sealed: Sealed<Cyclic>) -> anyhow::Result<()> {
-    match sealed.close() {
-        Some(figure) => println!(rt; "  line figure: {figure}")?,
-        None => println!(rt; "  line figure: none")?,
-    }
-    Ok(())
-}
-
-/// The hotel: four bits turned over, the table whole.
-fn hotel_case(rt: &impl Print, words: &[u64; WORDS]) -> anyhow::Result<()> {
-    println!(rt; "hotel: word {SPOILED} of {WORDS} with four bits turned over")?;
-    match heard(words, FOUR) {
-        Ok(receiver) => {
-            let sealed = receiver.seal();
-            spell(rt, &sealed)?;
-            close(rt, sealed)
-        }
-        Err(fault) => refused(rt, fault),
-    }
-}
-
-pub fn hotel(rt: &impl Print) -> anyhow::Result<()> {
-    match sent() {
-        Ok(words) => hotel_case(rt, &words),
-        Err(fault) => refused(rt, fault),
-    }
-}
-
-/// A receiver whose software drops the spoiled word.
-pub fn heard_without(words: &[u64; WORDS]) -> Result<Receiver<Cyclic>, Fault> {
-    let mut receiver = Receiver::new(Cyclic::of(Name::Q41));
-    for i in 0..WORDS {
-        if i != SPOILED {
-            let _ = receiver.offer(words[i])?;
+impl fmt::Display for Shown {
+    fn fmt<W: fmt::Write>(&self, f: &mut fmt::Formatter<W>) -> fmt::Result {
+        match self.0 {
+            Some(Place::Settled(message)) => write!(f, " {message:>7x}"),
+            Some(Place::Gap) => write!(f, "     gap"),
+            None => write!(f, "  absent"),
         }
     }
-    Ok(receiver)
 }
 
-fn show(rt: &impl Print, place: Option<Place>) -> anyhow::Result<()> {
-    match place {
-        Some(Place::Settled(message)) => print!(rt; " {message:>7x}")?,
-        Some(Place::Gap) => print!(rt; "     gap")?,
-        None => print!(rt; "  absent")?,
+impl<R: Print> Cases<'_, R> {
+    /// Spells a sealed report, and says whether the table came through.
+    fn spell(&self, sealed: &Sealed<Cyclic>) -> Result<(), Stop> {
+        let table = spelled(|buffer| sealed.spell(buffer))?;
+        let size = table.len();
+        let whole = table.as_slice() == TABLE.as_slice();
+        println!(self.rt; "  spelled: {size} bytes, the table that was sent: {whole}")?;
+        Ok(())
     }
-    Ok(())
-}
 
-/// The places from the spoiled one on: what the report holds, and what it would hold with the word dropped.
-fn print_places(
-    rt: &impl Print,
-    kept: &Receiver<Cyclic>,
-    dropped: &Receiver<Cyclic>,
-) -> anyhow::Result<()> {
-    println!(rt; "  place  report  with the word dropped")?;
-    for i in SPOILED..WORDS {
-        print!(rt; "     {i}")?;
-        show(rt, kept.place(i))?;
-        show(rt, dropped.place(i))?;
-        println!(rt; "")?;
-    }
-    Ok(())
-}
-
-fn side_by_side(
-    rt: &impl Print,
-    kept: Receiver<Cyclic>,
-    words: &[u64; WORDS],
-) -> anyhow::Result<()> {
-    match heard_without(words) {
-        Ok(dropped) => print_places(rt, &kept, &dropped)?,
-        Err(fault) => refused(rt, fault)?,
-    }
-    spell(rt, &kept.seal())
-}
-
-/// A report whose gap was settled by a repeat.
-pub fn repaired_report(words: &[u64; WORDS]) -> Result<Receiver<Cyclic>, Fault> {
-    let mut receiver = heard(words, FIVE)?;
-    let _ = receiver.repeat(SPOILED, words[SPOILED])?;
-    Ok(receiver)
-}
-
-/// The gap is settled by a repeat.
-fn repaired(rt: &impl Print, words: &[u64; WORDS]) -> anyhow::Result<()> {
-    match heard(words, FIVE) {
-        Ok(mut receiver) => {
-            if let Ok(Answer::Settled { place, .. }) = receiver.repeat(SPOILED, words[SPOILED]) {
-                println!(rt; "  repeated: place {place} is settled")?;
-            }
-            let sealed = receiver.seal();
-            spell(rt, &sealed)?;
-            close(rt, sealed)
+    fn close(&self, sealed: Sealed<Cyclic>) -> Result<(), Stop> {
+        match sealed.close() {
+            Some(figure) => println!(self.rt; "  line figure: {figure}")?,
+            None => println!(self.rt; "  line figure: none")?,
         }
-        Err(fault) => refused(rt, fault),
+        Ok(())
     }
-}
 
-/// The office block: five bits turned over, beyond reach of every codeword.
-pub fn office(rt: &impl Print) -> anyhow::Result<()> {
-    println!(rt; "office: word {SPOILED} of {WORDS} with five bits turned over")?;
-    match sent() {
-        Ok(words) => {
-            match heard(&words, FIVE) {
-                Ok(kept) => side_by_side(rt, kept, &words)?,
-                Err(fault) => refused(rt, fault)?,
-            }
-            repaired(rt, &words)
+    /// Seals a report, spells it, and closes it.
+    fn seal(&self, receiver: Receiver<Cyclic>) -> Result<(), Stop> {
+        let sealed = receiver.seal();
+        told(self.rt, self.spell(&sealed))?;
+        self.close(sealed)
+    }
+
+    /// The hotel: four bits turned over, the table whole.
+    fn hotel(&self) -> Result<(), Stop> {
+        println!(self.rt; "hotel: word {SPOILED} of {WORDS} with four bits turned over")?;
+        self.seal(self.words.heard(FOUR)?)
+    }
+
+    /// The places from the spoiled one on: what the report holds, and what it would hold with the word dropped.
+    fn print_places(&self, kept: &Receiver<Cyclic>) -> Result<(), Stop> {
+        let dropped = self.words.heard_without()?;
+        println!(self.rt; "  place  report  with the word dropped")?;
+        for place in SPOILED..WORDS {
+            let report = Shown(kept.place(place));
+            let early = Shown(dropped.place(place));
+            println!(self.rt; "     {place}{report}{early}")?;
         }
-        Err(fault) => refused(rt, fault),
+        Ok(())
+    }
+
+    /// A report with a gap.
+    fn side_by_side(&self) -> Result<(), Stop> {
+        let kept = self.words.heard(FIVE)?;
+        told(self.rt, self.print_places(&kept))?;
+        self.spell(&kept.seal())
+    }
+
+    /// The gap is settled by a repeat.
+    fn repaired(&self) -> Result<(), Stop> {
+        let mut receiver = self.words.heard(FIVE)?;
+        let repeat = receiver.repeat(SPOILED, self.words.spoiled());
+        if let Ok(Answer::Settled { place, .. }) = repeat {
+            println!(self.rt; "  repeated: place {place} is settled")?;
+        }
+        self.seal(receiver)
+    }
+
+    /// The office block: five bits turned over, beyond reach of every codeword.
+    fn office(&self) -> Result<(), Stop> {
+        println!(self.rt; "office: word {SPOILED} of {WORDS} with five bits turned over")?;
+        told(self.rt, self.side_by_side())?;
+        self.repaired()
+    }
+
+    /// Two runs that end in the same report, and the table carried twice.
+    fn both(&self) -> Result<(), Stop> {
+        let Judgement {
+            runs,
+            first,
+            second,
+        } = both_cases(self.words.spoiled());
+        let equal = runs.equal;
+        println!(self.rt;
+            "both: the report after four flips and the one after a repeat are equal: {equal}"
+        )?;
+        if let Ok(size) = first {
+            println!(self.rt; "  four flips in each word: {size} bytes spelled")?;
+        }
+        if let Err(fault) = second {
+            println!(self.rt; "  five flips in the first word:")?;
+            return Err(Stop::Refused(fault));
+        }
+        Ok(())
     }
 }
 
@@ -173,8 +129,8 @@ fn both_cases(word: u64) -> Judgement<Cyclic, Cyclic> {
         Call::Offer { word: word ^ FIVE },
         Call::Repeat { place: 0, word },
     ];
-    let mut buffer = [0; 64];
-    let mut other = [0; 64];
+    let mut buffer = [0; ROOM];
+    let mut other = [0; ROOM];
     judge(
         Run {
             code,
@@ -199,24 +155,13 @@ fn both_cases(word: u64) -> Judgement<Cyclic, Cyclic> {
     )
 }
 
-fn show_both(rt: &impl Print, judgement: Judgement<Cyclic, Cyclic>) -> anyhow::Result<()> {
-    let equal = judgement.runs.equal;
-    println!(rt;
-        "both: the report after four flips and the one after a repeat are equal: {equal}"
-    )?;
-    if let Ok(size) = judgement.first {
-        println!(rt; "  four flips in each word: {size} bytes spelled")?;
-    }
-    if let Err(fault) = judgement.second {
-        println!(rt; "  five flips in the first word:")?;
-        refused(rt, fault)?;
-    }
-    Ok(())
-}
-
-pub fn both(rt: &impl Print) -> anyhow::Result<()> {
-    match sent() {
-        Ok(words) => show_both(rt, both_cases(words[SPOILED])),
-        Err(fault) => refused(rt, fault),
-    }
+/// The hotel, the office block, and both side by side.
+pub fn every_case(rt: &(impl Print + Drop)) -> Result<(), Stop> {
+    let cases = Cases {
+        rt,
+        words: Words::sent()?,
+    };
+    told(rt, cases.hotel())?;
+    told(rt, cases.office())?;
+    cases.both()
 }

@@ -1,96 +1,73 @@
 //! What the cars read: the times of some floors, from the table that was sent and from the same table with a word dropped.
-use crate::single::refused;
-use crate::table::{WORDS, heard_without, repaired_report, sent};
+use crate::stop::Stop;
+use crate::words::{Spelled, WORDS, Words, spelled};
 use codes::fault::Fault;
 use cyclic::Cyclic;
 use cyclic::name::Name;
 use link::report::Place;
 use records::layout::Kind;
 use records::lookup::time_of;
+use std::{array, fmt, io};
 use tables::speller::spell;
 
 /// The lowest stop, some above it, and one that the building does not have.
 const FLOORS: [u32; 6] = [0, 4, 5, 6, 11, 12];
 
-/// Room for a table.
-type Buffer = [u8; 64];
-
 /// The table that a car spells once the gap is settled.
-fn whole_table(words: &[u64; WORDS]) -> Result<Buffer, Fault> {
-    let mut buffer = [0; 64];
-    let _ = repaired_report(words)?.seal().spell(&mut buffer)?;
-    Ok(buffer)
+fn whole_table(words: &Words) -> Result<Spelled, Fault> {
+    let sealed = words.repaired_report()?;
+    spelled(|buffer| sealed.spell(buffer))
 }
 
 /// The messages of a car that drops the spoiled word: each later one stands one place early, and a 0 fills the last place.
-fn shifted_messages(words: &[u64; WORDS]) -> Result<[u64; WORDS], Fault> {
-    let dropped = heard_without(words)?;
-    let mut messages = [0; WORDS];
-    for i in 0..WORDS {
-        if let Some(Place::Settled(message)) = dropped.place(i) {
-            messages[i] = message;
-        }
-    }
-    Ok(messages)
+fn shifted_messages(words: &Words) -> Result<[u64; WORDS], Fault> {
+    let dropped = words.heard_without()?;
+    Ok(array::from_fn(|place| match dropped.place(place) {
+        Some(Place::Settled(message)) => message,
+        Some(Place::Gap) | None => 0,
+    }))
 }
 
 /// The table that such a car spells.
-fn shifted_table(words: &[u64; WORDS]) -> Result<Buffer, Fault> {
+fn shifted_table(words: &Words) -> Result<Spelled, Fault> {
     let messages = shifted_messages(words)?;
-    let mut buffer = [0; 64];
-    let _ = spell(&Cyclic::of(Name::Q41), &messages, &mut buffer)?;
-    Ok(buffer)
+    spelled(|buffer| spell(&Cyclic::of(Name::Q41), &messages, buffer))
 }
 
-fn show_time(rt: &impl Print, time: Result<Option<u16>, Fault>) -> anyhow::Result<()> {
-    match time {
-        Ok(Some(tenths)) => {
-            let seconds = tenths / 10;
-            let tenth = tenths % 10;
-            print!(rt; " {seconds:>6}.{tenth}")?
+/// A time as it is shown, in seconds.
+#[derive(Drop)]
+struct Shown(Result<Option<u16>, Fault>);
+
+impl fmt::Display for Shown {
+    fn fmt<W: fmt::Write>(&self, f: &mut fmt::Formatter<W>) -> fmt::Result {
+        match self.0 {
+            Ok(Some(tenths)) => {
+                let seconds = tenths / 10;
+                let tenth = tenths % 10;
+                write!(f, " {seconds:>6}.{tenth}")
+            }
+            Ok(None) => write!(f, "   absent"),
+            Err(_) => write!(f, "  refused"),
         }
-        Ok(None) => print!(rt; "   absent")?,
-        Err(_) => print!(rt; "  refused")?,
     }
-    Ok(())
 }
 
-fn show_floor(rt: &impl Print, floor: u32, whole: &Buffer, shifted: &Buffer) -> anyhow::Result<()> {
-    print!(rt; "  {floor:>5}")?;
-    for kind in [Kind::Travel, Kind::Door] {
-        show_time(rt, time_of(&whole[0..56], kind, floor))?;
-        show_time(rt, time_of(&shifted[0..56], kind, floor))?;
-    }
-    println!(rt; "")?;
-    Ok(())
+fn show_floor(rt: &impl Print, floor: u32, whole: &[u8], shifted: &[u8]) -> io::Result<()> {
+    let travel = Shown(time_of(whole, Kind::Travel, floor));
+    let travel_dropped = Shown(time_of(shifted, Kind::Travel, floor));
+    let door = Shown(time_of(whole, Kind::Door, floor));
+    let door_dropped = Shown(time_of(shifted, Kind::Door, floor));
+    println!(rt; "  {floor:>5}{travel}{travel_dropped}{door}{door_dropped}")
 }
 
-fn side_by_side(rt: &impl Print, whole: &Buffer, shifted: &Buffer) -> anyhow::Result<()> {
+pub fn times(rt: &impl Print) -> Result<(), Stop> {
+    let words = Words::sent()?;
+    let whole = whole_table(&words)?;
+    let shifted = shifted_table(&words)?;
     println!(rt; "times in seconds, each beside what the car would read with word 17 dropped")?;
     println!(rt; "  floor   travel  dropped     door  dropped")?;
-    for floor in FLOORS.iter() {
-        show_floor(rt, *floor, whole, shifted)?;
+    for floor in FLOORS {
+        show_floor(rt, floor, whole.as_slice(), shifted.as_slice())?;
     }
     Ok(())
-}
-
-fn beside_shifted(rt: &impl Print, words: &[u64; WORDS], whole: &Buffer) -> anyhow::Result<()> {
-    match shifted_table(words) {
-        Ok(shifted) => side_by_side(rt, whole, &shifted),
-        Err(fault) => refused(rt, fault),
-    }
-}
-
-fn both_tables(rt: &impl Print, words: &[u64; WORDS]) -> anyhow::Result<()> {
-    match whole_table(words) {
-        Ok(whole) => beside_shifted(rt, words, &whole),
-        Err(fault) => refused(rt, fault),
-    }
-}
-
-pub fn times(rt: &impl Print) -> anyhow::Result<()> {
-    match sent() {
-        Ok(words) => both_tables(rt, &words),
-        Err(fault) => refused(rt, fault),
-    }
 }

@@ -9,28 +9,19 @@ use lines::reply::Reply;
 use listings::listing::Listing;
 use std::io;
 
-/// Room for a reply.
+/// Room for any reply.
 const ROOM: usize = 32;
-
-/// Sends the reply that was written into the buffer. The buffer has room for any, so none is refused.
-fn send(
-    terminal: &mut Terminal,
-    buffer: &[u8; ROOM],
-    written: Result<usize, Fault>,
-) -> io::Result<()> {
-    let count = written.unwrap_or(0).min(ROOM);
-    terminal.reply(&buffer[0..count])
-}
 
 /// Answers each line of an open listing.
 fn converse(terminal: &mut Terminal, mut listing: Listing) -> io::Result<()> {
+    // No iterator over the lines is plainer: a reply goes out between two of them, by the same terminal.
     for _ in 0..u64::MAX {
         let Some(line) = terminal.line()? else {
             break;
         };
         let mut buffer = [0; ROOM];
-        let written = listing.line(line.line(), &mut buffer);
-        send(terminal, &buffer, written)?;
+        let count = listing.line(line.line(), &mut buffer).unwrap();
+        terminal.reply(&buffer[..count])?;
     }
     Ok(())
 }
@@ -38,8 +29,8 @@ fn converse(terminal: &mut Terminal, mut listing: Listing) -> io::Result<()> {
 /// Answers a first line that names no code.
 fn refuse(terminal: &mut Terminal, fault: Fault) -> io::Result<()> {
     let mut buffer = [0; ROOM];
-    let written = Reply::Refused(fault.cause).write(&mut buffer);
-    send(terminal, &buffer, written)
+    let count = Reply::Refused(fault.cause).write(&mut buffer).unwrap();
+    terminal.reply(&buffer[..count])
 }
 
 fn run(terminal: &mut Terminal) -> io::Result<()> {

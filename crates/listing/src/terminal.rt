@@ -2,84 +2,69 @@
 use listings::partial::PartialLine;
 use std::alloc::Global;
 use std::io;
-use std::io::{Read, Stdin, Stdout, Write};
+use std::io::{BufRead, BufReader, BufWriter, Read, Stdin, Stdout, Write};
 
-/// How many bytes are read at once.
+/// How many bytes are read at once, and how many replies wait to be written.
 const CHUNK: usize = 65536;
 
-/// The bytes that were read and not yet used, and the replies that were not yet written.
+/// How many bytes of a line are looked at: more than any line that has a form.
+const FRONT: usize = 64;
+
+/// What is read and not yet used, the replies that are not yet written, and room for the front of a line.
 #[derive(Drop)]
 pub struct Terminal {
-    input: Stdin,
-    output: Stdout,
-    chunk: Vec<u8>,
-    next: usize,
-    end: usize,
-    replies: Vec<u8>,
+    input: BufReader<Stdin>,
+    output: BufWriter<Stdout>,
+    front: Vec<u8>,
 }
 
 impl Terminal {
     pub fn new(input: Stdin, output: Stdout, heap: Global) -> io::Result<Terminal> {
         Ok(Terminal {
-            input,
-            output,
-            chunk: vec![in heap; 0u8; CHUNK]?,
-            next: 0,
-            end: 0,
-            replies: Vec::new(heap),
+            input: BufReader::with_capacity(heap, CHUNK, input)?,
+            output: BufWriter::with_capacity(heap, CHUNK, output)?,
+            front: Vec::with_capacity(heap, FRONT)?,
         })
     }
 
     /// Writes the replies that are waiting.
     pub fn flush(&mut self) -> io::Result<()> {
-        self.output.write_all(&self.replies)?;
-        self.replies.clear();
-        Ok(())
+        self.output.flush()
     }
 
-    /// Reads more bytes. Replies go out first, since the input may pause for long.
-    fn refill(&mut self) -> io::Result<()> {
-        self.flush()?;
-        self.end = self.input.read(&mut self.chunk)?;
-        self.next = 0;
-        Ok(())
-    }
-
-    /// The next byte, or `None` at the end of the input.
-    fn byte(&mut self) -> io::Result<Option<u8>> {
-        if self.next >= self.end {
-            self.refill()?;
+    /// Reads the front of the next line, with its line feed where it is that short. Answers how many bytes that are: none at the end of the input.
+    fn read_front(&mut self) -> io::Result<usize> {
+        // The input may pause for long before the line ends, so replies go out first.
+        if !self.input.buffer().contains(&b'\n') {
+            self.flush()?;
         }
-        match self.chunk.get(self.next) {
-            Some(byte) if self.next < self.end => {
-                let byte = *byte;
-                self.next += 1;
-                Ok(Some(byte))
-            }
-            _ => Ok(None),
-        }
+        self.front.clear();
+        self.input
+            .by_ref()
+            .take(FRONT as u64)
+            .read_until(b'\n', &mut self.front)
     }
 
     /// The next line without its line feed, or `None` where no byte is left. The last line may end with the input.
     pub fn line(&mut self) -> io::Result<Option<PartialLine>> {
+        let read = self.read_front()?;
+        if read == 0 {
+            return Ok(None);
+        }
+        if self.front.last() == Some(&b'\n') {
+            self.front.pop();
+        } else if read == FRONT {
+            self.input.skip_until(b'\n')?;
+        }
         let mut line = PartialLine::new();
-        for _ in 0..u64::MAX {
-            match self.byte()? {
-                Some(b'\n') => return Ok(Some(line)),
-                Some(byte) => line.push(byte),
-                None => break,
-            }
+        for byte in &self.front {
+            line.push(*byte);
         }
-        if line.is_empty() {
-            Ok(None)
-        } else {
-            Ok(Some(line))
-        }
+        Ok(Some(line))
     }
 
     /// Keeps a reply to be written.
     pub fn reply(&mut self, bytes: &[u8]) -> io::Result<()> {
-        self.replies.extend_from_slice(bytes)?;
-        Ok(())
+        self.output.write_all(bytes)
     }
 }

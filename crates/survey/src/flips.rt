@@ -1,130 +1,77 @@
 //! Every pattern of at most t flips, and every pattern of one flip more.
-use crate::bits::{low_ones, next_pattern};
-use crate::plain::Plain;
-use crate::wrong::{BEYOND_REACH, Wrong, compare, encode};
-use codes::interface::{Code, Correction};
+use crate::Survey;
+use crate::subject::Subject;
+use crate::tally::Tally;
+use crate::wrong::Wrong;
+use codes::interface::Code;
 
-/// Every pattern of at most t flips on one codeword. Answers how many there are.
-fn around<C: Code>(code: &C, plain: &Plain, message: u64) -> Result<u64, Wrong> {
-    let codeword = encode(code, plain, message)?;
-    let mut pattern = 0u64;
-    let mut count = 0u64;
-    for _ in 0..u64::MAX {
-        if pattern.count_ones() > plain.reach {
-            break;
+/// Every pattern of at most t flips on one codeword.
+fn around<C: Code>(subject: &Subject<C>, message: u64) -> Result<Tally, Wrong> {
+    let codeword = subject.encode(message)?;
+    let plain = &subject.plain;
+    Tally::of(
+        plain.patterns(0..=plain.reach).map(|pattern| subject.answer(
+            codeword ^ pattern,
+            Some(pattern),
+        )),
+    )
+}
+
+/// Every pattern of so many flips, one too many, on one codeword.
+fn further<C: Code>(subject: &Subject<C>, codeword: u64, flips: u32) -> Result<Tally, Wrong> {
+    Tally::of(
+        subject
+            .plain
+            .patterns(flips..=flips)
+            .map(|pattern| subject.answer_beyond(codeword ^ pattern)),
+    )
+}
+
+impl<R: Print + Eprint> Survey<'_, R> {
+    /// Every pattern of at most t flips on some codewords.
+    pub fn within_reach<C: Code>(&mut self, subject: &Subject<C>) -> anyhow::Result<()> {
+        let plain = subject.plain;
+        let reach = plain.reach;
+        eprintln!(self.rt; "{plain}: patterns of at most {reach} flips")?;
+        let codewords = plain.codewords(self.size.codewords);
+        let plural = if codewords == 1 { "" } else { "s" };
+        let mut tally = Tally::default();
+        for index in 0..codewords {
+            tally = around(subject, plain.message_at(index))?;
+            self.count(tally.words);
         }
-        compare(code, plain, codeword ^ pattern, Some(pattern))?;
-        pattern = next_pattern(pattern, plain.bits());
-        count = count.wrapping_add(1);
+        let patterns = tally.words;
+        println!(self.rt;
+            "{plain}: {patterns} patterns of at most {reach} flips on {codewords} codeword{plural}: all corrected"
+        )?;
+        Ok(())
     }
-    Ok(count)
-}
 
-/// Every pattern of at most t flips on some codewords. Answers how many words were compared.
-pub fn within_reach<C: Code>(
-    rt: &HostRuntime,
-    code: &C,
-    plain: &Plain,
-    asked: u64,
-) -> anyhow::Result<u64> {
-    let name = plain.name;
-    let reach = plain.reach;
-    let codewords = plain.codewords(asked);
-    let plural = if codewords == 1 { "" } else { "s" };
-    let mut patterns = 0u64;
-    let mut words = 0u64;
-    eprintln!(rt; "{name}: patterns of at most {reach} flips")?;
-    for index in 0..codewords {
-        patterns = around(code, plain, plain.message_at(index))?;
-        words = words.wrapping_add(patterns);
+    /// Every pattern of t+1 flips on the codeword of one message.
+    fn beyond_reach_of<C: Code>(
+        &mut self,
+        subject: &Subject<C>,
+        message: u64,
+    ) -> anyhow::Result<()> {
+        let plain = subject.plain;
+        let flips = plain.reach + 1;
+        let codeword = subject.encode(message)?;
+        let Tally { words, refused } = further(subject, codeword, flips)?;
+        let near = words.saturating_sub(refused);
+        println!(self.rt;
+            "{plain}: {words} patterns of {flips} flips on codeword {codeword:x}: {refused} refused, {near} within reach of another codeword"
+        )?;
+        self.count(words);
+        Ok(())
     }
-    println!(rt;
-        "{name}: {patterns} patterns of at most {reach} flips on {codewords} codeword{plural}: all corrected"
-    )?;
-    Ok(words)
-}
 
-/// What came of the patterns of t+1 flips on one codeword.
-#[derive(Clone, Copy)]
-struct Beyond {
-    refused: u64,
-    near: u64,
-}
-
-/// Whether an answer is a codeword within reach of the word.
-fn is_near(plain: &Plain, word: u64, found: Correction) -> bool {
-    found.pattern == word ^ found.codeword
-        && found.pattern.count_ones() <= plain.reach
-        && found.message == plain.message(found.codeword)
-        && plain.has(found.codeword)
-}
-
-/// Adds what a code answers to one word of t+1 flips.
-fn add<C: Code>(code: &C, plain: &Plain, word: u64, so_far: Beyond) -> Result<Beyond, Wrong> {
-    match code.correct(word) {
-        Ok(found) if is_near(plain, word, found) => Ok(Beyond {
-            near: so_far.near.wrapping_add(1),
-            ..so_far
-        }),
-        Err(fault) if fault.cause.number() == BEYOND_REACH => Ok(Beyond {
-            refused: so_far.refused.wrapping_add(1),
-            ..so_far
-        }),
-        _ => Err(plain.wrong(word)),
-    }
-}
-
-/// Every pattern of t+1 flips on one codeword.
-fn further<C: Code>(code: &C, plain: &Plain, codeword: u64) -> Result<Beyond, Wrong> {
-    let flips = plain.reach.wrapping_add(1);
-    let mut pattern = low_ones(flips);
-    let mut counts = Beyond {
-        refused: 0,
-        near: 0,
-    };
-    for _ in 0..u64::MAX {
-        if pattern.count_ones() > flips {
-            break;
+    /// Every pattern of t+1 flips on some codewords.
+    pub fn beyond_reach<C: Code>(&mut self, subject: &Subject<C>) -> anyhow::Result<()> {
+        let plain = subject.plain;
+        eprintln!(self.rt; "{plain}: patterns of one flip too many")?;
+        for index in 0..self.size.few {
+            self.beyond_reach_of(subject, plain.message_at(3 * u64::from(index)))?;
         }
-        counts = add(code, plain, codeword ^ pattern, counts)?;
-        pattern = next_pattern(pattern, plain.bits());
+        Ok(())
     }
-    Ok(counts)
-}
-
-/// Every pattern of t+1 flips on the codeword of one message. Answers how many words were compared.
-fn show_further<C: Code>(
-    rt: &HostRuntime,
-    code: &C,
-    plain: &Plain,
-    message: u64,
-) -> anyhow::Result<u64> {
-    let codeword = encode(code, plain, message)?;
-    let counts = further(code, plain, codeword)?;
-    let name = plain.name;
-    let flips = plain.reach.wrapping_add(1);
-    let refused = counts.refused;
-    let near = counts.near;
-    let words = refused.wrapping_add(near);
-    println!(rt;
-        "{name}: {words} patterns of {flips} flips on codeword {codeword:x}: {refused} refused, {near} within reach of another codeword"
-    )?;
-    Ok(words)
-}
-
-/// Every pattern of t+1 flips on some codewords. Answers how many words were compared.
-pub fn beyond_reach<C: Code>(
-    rt: &HostRuntime,
-    code: &C,
-    plain: &Plain,
-    codewords: u64,
-) -> anyhow::Result<u64> {
-    let name = plain.name;
-    let mut words = 0u64;
-    eprintln!(rt; "{name}: patterns of one flip too many")?;
-    for index in 0..codewords {
-        let compared = show_further(rt, code, plain, plain.message_at(index.wrapping_mul(3)))?;
-        words = words.wrapping_add(compared);
-    }
-    Ok(words)
 }
