@@ -46,12 +46,12 @@ impl<'a, S: Symbol> Model for Feed<'a, S> {
     ghost invariant = { λ f. InHand S.number f.width (iter_rest f.symbols) f.held f.bits };
 }
 
-/// The number with one bit set.
-fn power_of_two(bit: u32) -> u64
-    requires { bit < 64 }
-    ensures { result ≡ 2 ^ bit }
+/// The lowest bits of a number, so many of them.
+fn lowest(number: u64, bits: u32) -> u64
+    requires { bits < 64 }
+    ensures { result ≡ number % 2 ^ bits }
 {
-    1 << bit
+    number % (1 << bits)
 }
 
 /// The number of the next symbol. Past the last one it is 0.
@@ -89,7 +89,7 @@ impl<'a, S: Symbol> Feed<'a, S> {
             self.held += next_number(&mut self.symbols) << self.bits;
             self.bits += self.width;
         }
-        let number = self.held % power_of_two(width);
+        let number = lowest(self.held, width);
         self.held >>= width;
         self.bits -= width;
         number
