@@ -22,7 +22,7 @@ first c =
     let rows = c.message_rows-rows.result.now in
     let t = self.code.now.generator.t in
     IsFirst-from_position _ _ c.position.result (λ row. ones (bit_xor self.syndrome row) < t) (λ row. t ≤ ones (bit_xor self.syndrome row))
-    c.position.ensures.ran (YieldsList-from_slice rows (cc)) (λ x q k. search (rules, tests)) (λ x q k. search (rules, tests))
+    c.position.ensures.ran (YieldsList-from_slice rows (cc)) (λ x q k. search (rules, tests)) (λ x q k. (search rules, search (rules, tests)))
 
 pub returns : goal.returns
 returns c =
