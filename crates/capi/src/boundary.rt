@@ -70,7 +70,9 @@ fn heading_of(code: u32) -> Option<Heading>
 pub(crate) fn pick(code: u32) -> Result<Choice, Refusal>
     ensures { MatchResult result (Picks code) (λ r. (r ≡ UnknownCode) × NumbersNone code) }
 {
-    heading_of(code).map(Choice::from).ok_or(Refusal::UnknownCode)
+    heading_of(code)
+        .map(Choice::from)
+        .ok_or(Refusal::UnknownCode)
 }
 
 /// Writes what a call came to, if it is no refusal, and tells C its number: 0, or that of the refusal.

@@ -61,7 +61,7 @@ fn answer_at<C: Code>(code: &C, word: u64, place: usize) -> Result<Answer, Fault
             pattern: found.pattern,
         }),
         Err(refusal) if refusal.cause == Cause::BeyondReach => Ok(Answer::Gap { place }),
-        Err(refusal) => Err(Fault { place, ..refusal }),
+        Err(refusal) => Err(refusal.at(place)),
     }
 }
 
@@ -101,10 +101,7 @@ impl<C: Code> Receiver<C> {
         let place = self.count();
         let answer = answer_at(&self.code, word, place)?;
         if self.report.is_full() {
-            return Err(Fault {
-                place,
-                ..Fault::new(Cause::ReportFull)
-            });
+            return Err(Fault::new(Cause::ReportFull).at(place));
         }
         self.report.push(answer.into());
         Ok(answer)
@@ -120,10 +117,7 @@ impl<C: Code> Receiver<C> {
         one_repeat();
         let answer = answer_at(&self.code, word, place)?;
         if !self.report.has_gap(place) {
-            return Err(Fault {
-                place,
-                ..Fault::new(Cause::NotAGap)
-            });
+            return Err(Fault::new(Cause::NotAGap).at(place));
         }
         self.report.replace(place, answer.into());
         Ok(answer)

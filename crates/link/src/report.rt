@@ -125,10 +125,7 @@ impl Report {
         let mut messages = ArrayVec::new();
         for (at, heard) in self.heard.iter().enumerate() {
             let Place::Settled(message) = heard.place else {
-                return Err(Fault {
-                    place: at,
-                    ..Fault::new(Cause::GapInReport)
-                });
+                return Err(Fault::new(Cause::GapInReport).at(at));
             };
             messages.push(message);
         }

@@ -36,10 +36,8 @@ impl<'a> Reader<'a> {
         if left.is_empty() {
             return Ok(None);
         }
-        let record = Record::at_front(left, place).ok_or(Fault {
-            place,
-            ..Fault::new(Cause::BadRecord)
-        })?;
+        let refusal = Fault::new(Cause::BadRecord).at(place);
+        let record = Record::at_front(left, place).ok_or(refusal)?;
         self.at = record.end();
         Ok(Some(record))
     }

@@ -10,7 +10,7 @@ returns-in_default c =
     let first =
     gap_is_first shown.result.now c.args.self.now.heard.items turn.messages.items turn.at _ shown.ensures.0 c.loop-at-test.true
     turn.invariant.settled c.in_default.is in
-    (omega (arith, first.0, first.1), search (first.0, c.new.ensures))
+    (omega (arith, first.0, first.1), search (first.0, c.new.ensures, c.at.ensures))
 
 pub loop-at-preserved : goal.loop-at-preserved
 loop-at-preserved c =
