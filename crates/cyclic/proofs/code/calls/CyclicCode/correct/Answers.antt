@@ -1,4 +1,4 @@
-use Rattle.std.proofs.Common.{◌^◌, ◌<◌, ◌≡◌, ℕ, MatchOption, sym, subst, rules}
+use Rattle.std.proofs.Common.{◌^◌, ◌<◌, ◌≡◌, ℕ, MatchOption, sym, subst, rules, arith}
 use Rattle.codes.specs.Interface.{Corrects}
 use Rattle.codes.specs.Meaning.{Beyond}
 use Rattle.cyclic.specs.Generator.{numbers, code_of, syndrome}
@@ -13,7 +13,7 @@ pub returns : goal.returns
 returns c =
     let code = c.args.self.now.generator in
     let f = facts code in
-    let fits : c.args.word < 2 ^ code.n = c.if-not-fits_in.ensures in
+    let fits : c.args.word < 2 ^ code.n = omega (arith, c.if-not-fits_in.ensures) in
     let near : MatchOption c.map.result (Beyond (code_of (numbers code)) c.args.word) (Corrects (code_of (numbers code)) c.args.word) =
     mapped (Pattern (numbers code) code.t (syndrome (numbers code) c.args.word)) (Corrects (code_of (numbers code)) c.args.word) _ c.pattern.result c.map.result
     (none_found (numbers code) f c.args.word fits)
