@@ -1,5 +1,5 @@
 mod Conversations
-mod Fronts
+pub mod Fronts
 mod Short
 mod OneReply
 mod Writing

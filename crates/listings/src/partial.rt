@@ -33,6 +33,7 @@ impl PartialLine {
     }
 
     /// Reads one byte more of the line. Past the room it is not kept.
+    #[tactic(auto, using(crate::proofs::Fronts::kept_more, crate::proofs::Fronts::kept_full))]
     pub fn push(&mut self, byte: u8)
         ensures { kept_in self.new ≡ take 18 (kept_in self.old ++ byte ∷ []) }
     {

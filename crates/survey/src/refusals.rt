@@ -35,7 +35,9 @@ impl<R: Print> Survey<'_, R> {
         let shape = Parity::over(Parity::over(Cyclic::of(Name::Q41))).shape();
         self.refused("Q41 with parity twice, shape", shape, Cause::OutOfService)?;
         let mut buffer = [0; 8];
-        let spelled = Receiver::new(Cyclic::of(Name::Q41)).seal().spell(&mut buffer);
+        let spelled = Receiver::new(Cyclic::of(Name::Q41))
+            .seal()
+            .spell(&mut buffer);
         self.refused("Q41, a report of no places", spelled, Cause::NotATable)
     }
 }

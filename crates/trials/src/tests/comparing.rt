@@ -14,7 +14,15 @@ fn equal_reports(rt: HostRuntime) {
         Call::Repeat { place: 0, word: 0 },
         Call::Offer { word: 0x1f },
     ];
-    assert!(rt; compare(Cyclic::of(Name::Q31), &calls, Cyclic::of(Name::Q31), &others).equal);
+    assert!(rt;
+        compare(
+            Cyclic::of(Name::Q31),
+            &calls,
+            Cyclic::of(Name::Q31),
+            &others
+        )
+        .equal
+    );
 }
 
 /// A gap that is settled by a repeat makes the difference.
@@ -25,6 +33,14 @@ fn different_reports(rt: HostRuntime) {
         Call::Offer { word: 0xf },
         Call::Repeat { place: 0, word: 0 },
     ];
-    assert!(rt; !compare(Cyclic::of(Name::Q31), &calls, Cyclic::of(Name::Q31), &others).equal);
+    assert!(rt;
+        !compare(
+            Cyclic::of(Name::Q31),
+            &calls,
+            Cyclic::of(Name::Q31),
+            &others
+        )
+        .equal
+    );
     assert!(rt; !compare(Cyclic::of(Name::Q31), &calls, Cyclic::of(Name::Q31), &[]).equal);
 }

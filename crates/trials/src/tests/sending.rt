@@ -20,7 +20,10 @@ fn longest_table(rt: HostRuntime) {
         Err(at(Cause::TableTooLong, 0))
     );
     assert_eq!(rt; words, [9; 257]);
-    assert_eq!(rt; send(&Cyclic::of(Name::G23), &table[0..382], &mut words), Ok(256));
+    assert_eq!(rt;
+        send(&Cyclic::of(Name::G23), &table[0..382], &mut words),
+        Ok(256)
+    );
     assert_eq!(rt; words[255], 0x7fffff);
     assert_eq!(rt; words[256], 9);
 }

@@ -25,7 +25,10 @@ fn refuses<C: Code + Drop>(sealed: &Sealed<C>, cause: Cause, place: usize) -> Re
 #[test]
 fn there_and_back(rt: HostRuntime) -> Result<(), Fail> {
     let mut words = [0; 4];
-    assert_eq!(rt; send(&Cyclic::of(Name::G23), &[1, 2, 0xff], &mut words), Ok(4));
+    assert_eq!(rt;
+        send(&Cyclic::of(Name::G23), &[1, 2, 0xff], &mut words),
+        Ok(4)
+    );
     let sealed = heard(&words);
     let mut buffer = [7; 5];
     assert_eq!(rt; sealed.spell(&mut buffer), Ok(3));
@@ -65,7 +68,12 @@ fn carried(rt: HostRuntime) {
     let patterns = [0xf, 1 << 40 | 0x7 << 20, 0x1111];
     let mut buffer = [7; 6];
     assert_eq!(rt;
-        carry(Cyclic::of(Name::Q41), &[8, 0x80, 0xff, 0], &patterns, &mut buffer),
+        carry(
+            Cyclic::of(Name::Q41),
+            &[8, 0x80, 0xff, 0],
+            &patterns,
+            &mut buffer
+        ),
         Ok(4)
     );
     assert_eq!(rt; buffer, [8, 0x80, 0xff, 0, 7, 7]);

@@ -11,8 +11,17 @@ fn one_layer() -> Result<(), Fail> {
     encodes(&parity, 1, 0x15c7)?;
     refuses(&parity, 0x1e, Cause::BeyondReach)?;
     corrects(&parity, 0x1f, 0x402, 0x402400)?;
-    corrects(&Shortened::over(Cyclic::of(Name::G23), 1), 0xf, 0x402, 0x201200)?;
-    refuses(&Shortened::over(Cyclic::of(Name::G23), 2), 0xf, Cause::BeyondReach)?;
+    corrects(
+        &Shortened::over(Cyclic::of(Name::G23), 1),
+        0xf,
+        0x402,
+        0x201200,
+    )?;
+    refuses(
+        &Shortened::over(Cyclic::of(Name::G23), 2),
+        0xf,
+        Cause::BeyondReach,
+    )?;
     Ok(())
 }
 

@@ -35,6 +35,9 @@ fn mixed_words(rt: HostRuntime) {
 #[test]
 fn out_of_service(rt: HostRuntime) {
     let mut slots = [slot(0, None, 7, 7)];
-    correct_list(&Parity::over(Parity::over(Cyclic::of(Name::Q41))), &mut slots);
+    correct_list(
+        &Parity::over(Parity::over(Cyclic::of(Name::Q41))),
+        &mut slots,
+    );
     assert_eq!(rt; slots[0], slot(0, Some(Cause::OutOfService), 0, 0));
 }
