@@ -62,6 +62,7 @@ pub struct Record<'a> {
 
 impl<'a> Record<'a> {
     /// The record that bytes begin with, where the first of them stands at a place; absent if it is faulty.
+    #[tactic(auto, using(crate::proofs::Framing::begins, crate::proofs::Framing::times_of))]
     pub(crate) fn at_front(bytes: &'a [u8], place: usize) -> Option<Record<'a>>
         ensures { MatchOption result (CutShort bytes.now ⊎ HalfEntry bytes.now) (Begins bytes.now place) }
     {

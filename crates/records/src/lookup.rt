@@ -23,6 +23,7 @@ fn first_of(bytes: &[u8], kind: Kind) -> Result<Option<Record<'_>>, Fault>
 }
 
 /// The entry of a floor in a payload, absent past the last one.
+#[tactic(auto, using(crate::proofs::Entries::entry_past))]
 fn entry(payload: &[u8], floor: u32) -> Option<u16>
     ensures { result ≡ slice_get (entries payload.now) floor }
 {

@@ -25,7 +25,7 @@ impl<'a> Reader<'a> {
     }
 
     /// The next record, or `None` behind the last. A faulty one is refused, and the reader stays before it.
-    #[tactic(auto, using(crate::proofs::Meanings::reads_back))]
+    #[tactic(auto, using(crate::proofs::Meanings::reads_back, crate::proofs::Meanings::moved))]
     pub fn next(&mut self) -> Result<Option<Record<'a>>, Fault>
         ensures read { ReadOn self.old.bytes.now self.old.at result self.new.at }
         ensures same { self.new.bytes ≡ self.old.bytes }

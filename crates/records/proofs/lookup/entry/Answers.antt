@@ -1,11 +1,6 @@
 use Rattle.std.proofs.Common.{◌/◌, length, get_or, refl, ap, ◌∙◌, arith}
-use Rattle.records.proofs.Entries.{entry_inside, entry_past}
+use Rattle.records.proofs.Entries.{entry_inside}
 use Rattle.records.proofs.lookup.entry.Goals as goal
-
-pub returns-in_err-entry : goal.returns-in_err-entry
-returns-in_err-entry c =
-    let past = c.in_err-entry.ensures.lookup in
-    c.from_residual.ensures ∙ entry_past c.args.payload.now c.args.floor (omega (arith, past.3))
 
 pub returns : goal.returns
 returns c =

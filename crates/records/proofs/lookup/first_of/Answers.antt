@@ -1,15 +1,13 @@
-use Rattle.std.proofs.Common.{Some, Ok, sym, ap, ◌∙◌, subst}
+use Rattle.std.proofs.Common.{Some, Ok, sym, ap, ◌∙◌}
 use Rattle.std.proofs.lemmas.Result.{err_from_is_err_and}
 use Rattle.records.specs.Reader.{ReadOn}
-use Rattle.records.proofs.Walking.{at_start, none_left, faulty_next, met, passed_over, goes_on}
+use Rattle.records.proofs.Walking.{none_left, faulty_next, met, passed_over, goes_on}
 use Rattle.records.proofs.lookup.first_of.Goals as goal
 use Rattle.records.proofs.lookup.first_of.Goals.{In-Some}
 
 -- what the reader answered, of the bytes that were handed over
 read : (c : In-Some) → ReadOn c.args.bytes.now c.loop-record.reader.at (Ok (Some c.in-Some.record)) c.next.new.self.at
-read c =
-    subst (λ o. ReadOn c.args.bytes.now c.loop-record.reader.at (Ok o) c.next.new.self.at) c.in-Some.is
-    (subst (λ b. ReadOn b c.loop-record.reader.at (Ok c.in_ok-record.field-0) c.next.new.self.at) c.loop-record.invariant.0 c.in_ok-record.ensures.read)
+read c = rw (c.in-Some.is, c.loop-record.invariant.0) at c.in_ok-record.ensures.read
 
 pub returns-in_err-record : goal.returns-in_err-record
 returns-in_err-record c =
@@ -35,11 +33,7 @@ loop-record-preserved c = (
       (λ e. c.if-from.false (c.from.ensures ∙ e ∙ sym c.from-in-Some.ensures)) (read (goal.at.loop-record-preserved c).In-Some),
 )
 
-pub loop-record-init : goal.loop-record-init
-loop-record-init c = (c.new-reader.ensures.bytes, rw c.new-reader.ensures.at (at_start c.args.bytes.now c.args.kind))
-
 pub returns : goal.returns
 returns c =
     none_left c.args.bytes.now c.args.kind c.loop-record.reader.at c.loop-record.invariant.1 c.next.new.self.at
-    (subst (λ o. ReadOn c.args.bytes.now c.loop-record.reader.at (Ok o) c.next.new.self.at) c.in_default.is
-    (subst (λ b. ReadOn b c.loop-record.reader.at (Ok c.in_ok-record.field-0) c.next.new.self.at) c.loop-record.invariant.0 c.in_ok-record.ensures.read))
+    (rw (c.in_default.is, c.loop-record.invariant.0) at c.in_ok-record.ensures.read)
