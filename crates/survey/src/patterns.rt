@@ -25,9 +25,11 @@ pub fn low_ones(count: u32) -> u64
 
 /// Whether a word has no bit at this place or above.
 pub fn is_within(word: u64, length: u32) -> bool
-    requires { length < 64 }
     ensures { MatchBool result (word < 2 ^ length) (2 ^ length ≤ word) }
 {
+    if length >= u64::BITS {
+        return true;
+    }
     word < 1 << length
 }
 
