@@ -42,6 +42,7 @@ fn offer_all(receiver: &mut Receiver<Choice>, words: &[u64]) -> Result<(), Fault
 }
 
 /// Hears the words in a new receiver, and spells its report.
+// Words and buffer go through three calls side by side, since C lends them side by side.
 fn hear(code: Choice, words: &[u64], table: &mut [u8]) -> Result<usize, Fault>
     ensures { Received (choice_means code) words.now table.old result table.new }
 {

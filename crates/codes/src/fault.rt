@@ -37,6 +37,7 @@ pub enum Cause {
 
 impl Cause {
     /// The number of the cause.
+    // A method and no `From`: `u8::from(cause)` would not say which number.
     pub fn number(self) -> u8
         ensures { result ≡ number self }
     {
@@ -75,6 +76,7 @@ pub enum Layer {
 
 impl Layer {
     /// The letter by which the layer is known outside the program.
+    // A method and no `From`, like the number of a cause.
     pub fn letter(self) -> char
         ensures { result ≡ letter self }
     {

@@ -77,6 +77,7 @@ fn one_repeat()
     ensures { OneRepeat }
 {}
 
+// That the code stays is said by each call that changes the receiver: an invariant speaks of one state, not of two.
 impl<C: Code> Receiver<C> {
     /// A receiver that has heard nothing.
     pub fn new(code: C) -> Receiver<C>

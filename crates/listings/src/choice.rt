@@ -10,6 +10,7 @@ use layers::parity::Parity;
 use lines::heading::Heading;
 
 /// One of the three codes, with or without a parity bit.
+// An enum and no `dyn Code`: it is picked in a function and handed out, as no `dyn` may be.
 #[derive(Clone, Copy)]
 pub enum Choice {
     Plain(Cyclic),

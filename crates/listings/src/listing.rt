@@ -47,6 +47,7 @@ impl Listing {
     }
 
     /// Carries out the command that a line stands for.
+    // That the code stays is said by each call that changes the listing: an invariant speaks of one state, not of two.
     fn carry_out(&mut self, line: &[u8]) -> Result<Reply, Fault>
         ensures replied { Replied (meaning_in self.old) line.now (held_in self.old) (reply_for result) (held_in self.new) }
         ensures same { self.new.receiver.code ≡ self.old.receiver.code }

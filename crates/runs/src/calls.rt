@@ -8,6 +8,7 @@ use codes::interface::Code;
 use link::receiver::Receiver;
 
 /// A call on a receiver that may change its report.
+// Calls are data and no closures: the law speaks of lists of them, and two lists can be compared.
 #[derive(Clone, Copy, PartialEq, Eq, Debug)]
 pub enum Call {
     Offer { word: u64 },

@@ -122,6 +122,7 @@ impl Plain {
 
     /// What long division by the generator leaves.
     pub fn remainder(&self, word: u64) -> u64 {
+        // The bits of a number are no collection to go over, so their places are.
         let checks = self.checks();
         let mut rest = word;
         for place in (0..self.message_bits).rev() {

@@ -428,6 +428,7 @@ const ROWS: [Row; 44] = [
 
 /// Reads to the end or to a refusal, and how many records came before it.
 fn count_records(bytes: &[u8]) -> (usize, Option<Fault>) {
+    // A reader is no iterator, and refuses without end: the loop is bounded by the bytes, of which a record takes four.
     let mut reader = Reader::new(bytes);
     for count in 0..=bytes.len() {
         match reader.next() {
