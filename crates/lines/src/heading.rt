@@ -5,7 +5,7 @@ ghost use Rattle.lines.specs.Heading.{name_text, mark_text, TokenNames, FindsHea
 
 use crate::token::Token;
 use codes::fault::{Cause, Fault};
-use cyclic::name::Name;
+pub use cyclic::name::Name;
 
 /// A code by its name, and whether a parity layer is added to it.
 #[derive(Clone, Copy, PartialEq, Eq, Debug)]

@@ -8,7 +8,6 @@ ghost use Rattle.lines.specs.Reply.{reply_words, reply_text, Written, OneWriting
 use crate::line::Line;
 use codes::fault::{Cause, Fault, Layer};
 use link::receiver::Answer;
-use std::fmt;
 
 /// The answer to a line.
 #[derive(Clone, Copy, PartialEq, Eq, Debug)]
@@ -97,17 +96,6 @@ impl Reply {
         }
         buffer[..text.len()].copy_from_slice(text);
         Ok(text.len())
-    }
-}
-
-impl fmt::Display for Reply {
-    ghost use Rattle.std.specs.Prelude.{Some};
-    ghost use Rattle.lines.specs.Reply.{reply_words};
-
-    ghost output = { λ reply. Some (reply_words reply) };
-
-    fn fmt<W: fmt::Write>(&self, f: &mut fmt::Formatter<W>) -> fmt::Result {
-        f.pad(self.words().as_str())
     }
 }
 
