@@ -1,9 +1,6 @@
 -- The refusals of a code, each from what its tests found, and that a lawful meaning leaves one answer.
-use Rattle.std.proofs.Common.{◌≡◌, ℕ, ◌+◌, ◌*◌, ◌/◌, ◌%◌, ◌^◌, ◌<◌, ◌≤◌, Bool, true, false, [], ◌∷◌, MatchBool, refl, ap, ◌∙◌, subst, ⊎_elim, arith, pow_pos}
-use native.Mathlib.Nat.{div-eq_of_lt}
+use Rattle.std.proofs.Common.{◌≡◌, ℕ, ◌/◌, ◌^◌, ◌<◌, ◌≤◌, Bool, true, false, [], ◌∷◌, MatchBool, refl, arith, pow_mono, pow_pos}
 use lib.Bits.{bit_xor}
-use lib.Pow.{split}
-use Rattle.std.proofs.lemmas.Nat.{mod_below}
 use Rattle.std.proofs.lemmas.Bool.{both_ways, cases_Bool, cases_lt}
 use Rattle.codes.specs.declared.fault.Cause.TheVariants.{OutOfService, WordTooLong, MessageTooLong, BeyondReach}
 use Rattle.codes.specs.declared.interface.Correction.{Correction}
@@ -18,14 +15,12 @@ when_from true p q = p refl
 when_from false p q = q refl
 
 -- the test of a width by a shift
-pub long_by_shift : (w n : ℕ) → (w / 2 ^ n ≡ 0 → ⊥) → 2 ^ n ≤ w
-long_by_shift w n h = ⊎_elim (λ l. absurd (h (div-eq_of_lt l))) (λ l. l) (cases_lt w (2 ^ n))
-
 pub short_by_shift : (w n : ℕ) → w / 2 ^ n ≡ 0 → w < 2 ^ n
-short_by_shift w n h =
-    let rest = mod_below w (2 ^ n) (pow_pos n) in
-    let whole : 0 * 2 ^ n + w % 2 ^ n ≡ w = subst (λ (x : ℕ). x * 2 ^ n + w % 2 ^ n ≡ w) h (split w n) in
-    omega arith
+short_by_shift w n h = grind (arith, pow_pos n)
+
+-- a width past the 64 bits of a number
+pub widest : (n : ℕ) → 64 ≤ n → 2 ^ 64 ≤ 2 ^ n
+widest n l = pow_mono l
 
 -- ---- each test of a code is decided
 
@@ -54,19 +49,14 @@ one_shape : (m : Meaning) → One (Shapes m)
 one_shape m = (
   shape_of m.n m.k m.t,
   record { length = refl; bits = refl; reach = refl },
-  λ s p. ap (λ (x : ℕ). shape_of x s.message_bits s.reach) p.length ∙ ap (λ (x : ℕ). shape_of m.n x s.reach) p.bits
-      ∙ ap (shape_of m.n m.k) p.reach,
+  λ s p. rw (← p.length, ← p.bits, ← p.reach) refl,
 )
 
 one_correction : {m : Meaning} → Lawful m → (w v : ℕ) → Within m w v → One (Corrects m w)
 one_correction {m} law w v near = (
   correction_of v (message m v) (bit_xor w v),
   record { within = near; carried = refl; flips = refl },
-  λ a p.
-      let same : a.codeword ≡ v = one_within law w a.codeword v p.within near in
-      ap (λ (x : ℕ). correction_of x a.message a.pattern) same
-      ∙ ap (λ (x : ℕ). correction_of v x a.pattern) (p.carried ∙ ap (message m) same)
-      ∙ ap (correction_of v (message m v)) (p.flips ∙ ap (bit_xor w) same),
+  λ a p. rw (← one_within law w a.codeword v p.within near, ← p.carried, ← p.flips) refl,
 )
 
 pub one_answer : OneAnswer

@@ -1,5 +1,5 @@
 -- Numbers tell causes apart and letters layers, so that the tests of a call leave one outcome.
-use Rattle.std.proofs.Common.{◌≡◌, ℕ, zero, suc, ◌⊎◌, List, [], ◌∷◌, Ok, Err, Result, sym, refl, ap, ◌∙◌, inl, inr, ⊎_elim, arith}
+use Rattle.std.proofs.Common.{◌≡◌, ℕ, ◌⊎◌, List, [], ◌∷◌, Ok, Err, Result, refl, ap, ◌∙◌, inl, inr, ⊎_elim, arith}
 use Rattle.codes.specs.declared.fault.Cause.{Cause}
 use Rattle.codes.specs.declared.fault.Cause.TheVariants.{OutOfService, WordTooLong, MessageTooLong, BeyondReach, ReportFull, NotAGap, NoMessageBits, TableTooLong, TooShort, GapInReport, NotATable, BadRecord, BadLine}
 use Rattle.codes.specs.declared.fault.Layer.{Layer}
@@ -8,60 +8,34 @@ use Rattle.codes.specs.declared.fault.Fault.{Fault}
 use Rattle.codes.specs.Fault.{number, letter, fault, Test, Reports, Passed, Outcome, Transition}
 use Rattle.codes.specs.Meaning.{One}
 
--- no two cases have the same number
-abbrev Distinct : {A : Type 0} → (A → ℕ) → Type 0
-Distinct {A} f = (x y : A) → f x ≡ f y → x ≡ y
+numbers_distinct : (x y : Cause) → number x ≡ number y → x ≡ y
+numbers_distinct OutOfService OutOfService h = refl
+numbers_distinct WordTooLong WordTooLong h = refl
+numbers_distinct MessageTooLong MessageTooLong h = refl
+numbers_distinct BeyondReach BeyondReach h = refl
+numbers_distinct ReportFull ReportFull h = refl
+numbers_distinct NotAGap NotAGap h = refl
+numbers_distinct NoMessageBits NoMessageBits h = refl
+numbers_distinct TableTooLong TableTooLong h = refl
+numbers_distinct TooShort TooShort h = refl
+numbers_distinct GapInReport GapInReport h = refl
+numbers_distinct NotATable NotATable h = refl
+numbers_distinct BadRecord BadRecord h = refl
+numbers_distinct BadLine BadLine h = refl
+numbers_distinct x y h = absurd (omega arith)
 
--- the case at an index of a list of all cases
-at : {A : Type 0} → A → List A → ℕ → A
-at d [] i = d
-at d (x ∷ xs) zero = x
-at d (x ∷ xs) (suc i) = at d xs i
-
-abbrev cause_of : ℕ → Cause
-cause_of i = at BadLine (OutOfService ∷ OutOfService ∷ WordTooLong ∷ MessageTooLong ∷ BeyondReach ∷ ReportFull ∷ NotAGap ∷ NoMessageBits ∷ TableTooLong ∷ TooShort ∷ GapInReport ∷ NotATable ∷ BadRecord ∷ []) i
-
-cause_back : (c : Cause) → cause_of (number c) ≡ c
-unfolding at
-cause_back OutOfService = refl
-cause_back WordTooLong = refl
-cause_back MessageTooLong = refl
-cause_back BeyondReach = refl
-cause_back ReportFull = refl
-cause_back NotAGap = refl
-cause_back NoMessageBits = refl
-cause_back TableTooLong = refl
-cause_back TooShort = refl
-cause_back GapInReport = refl
-cause_back NotATable = refl
-cause_back BadRecord = refl
-cause_back BadLine = refl
-
--- what can be told back from its number is told apart by it
-distinct_back : {A : Type 0} (f : A → ℕ) (back : ℕ → A) → ((x : A) → back (f x) ≡ x) → Distinct f
-distinct_back f back e x y h = sym (e x) ∙ ap back h ∙ e y
-
-numbers_distinct : Distinct number
-numbers_distinct = distinct_back number cause_of cause_back
-
-letters_distinct : Distinct letter
+letters_distinct : (x y : Layer) → letter x ≡ letter y → x ≡ y
 letters_distinct Word Word h = refl
-letters_distinct Word Report h = absurd (omega arith)
-letters_distinct Word Table h = absurd (omega arith)
-letters_distinct Report Word h = absurd (omega arith)
 letters_distinct Report Report h = refl
-letters_distinct Report Table h = absurd (omega arith)
-letters_distinct Table Word h = absurd (omega arith)
-letters_distinct Table Report h = absurd (omega arith)
 letters_distinct Table Table h = refl
+letters_distinct x y h = absurd (omega arith)
 
 pub same_fault : (c : Test) (f g : Fault) → Reports c f → Reports c g → f ≡ g
 same_fault c f g p q =
-    let cause : f.cause ≡ g.cause = numbers_distinct f.cause g.cause (p.0 ∙ sym q.0) in
-    let layer : f.layer ≡ g.layer = letters_distinct f.layer g.layer (p.1 ∙ sym q.1) in
-    let place : f.place ≡ g.place = p.2 ∙ sym q.2 in
-    ap (λ (x : Cause). fault x f.layer f.place) cause ∙ ap (λ (x : Layer). fault g.cause x f.place) layer
-    ∙ ap (fault g.cause g.layer) place
+    let cause : f.cause ≡ g.cause = numbers_distinct f.cause g.cause (cc) in
+    let layer : f.layer ≡ g.layer = letters_distinct f.layer g.layer (cc) in
+    let parts : fault f.cause f.layer f.place ≡ fault g.cause g.layer g.place = cc in
+    parts
 
 -- a test that either passes or fails, and whose number is a cause's
 pub record Decided (c : Test) : Type 0 where
@@ -112,7 +86,7 @@ module _ {A : Type 0} (P : A → Type 0) where
 
 -- a fault that was made of these parts reports them
 pub reported : (c : Cause) (l : Layer) (p : ℕ) (f : Fault) → f ≡ fault c l p → (number f.cause ≡ number c) × (letter f.layer ≡ letter l) × (f.place ≡ p)
-reported c l p f e = (ap (λ (x : Fault). number x.cause) e, ap (λ (x : Fault). letter x.layer) e, ap (λ (x : Fault). x.place) e)
+reported c l p f e = rw e (refl, refl, refl)
 
 module _ {A S : Type 0} (before : S) (P : A → S → Type 0) where
   -- an outcome over answer and state, taken apart: a refusal leaves the state before

@@ -1,5 +1,5 @@
 -- A list of slots becomes one list.
-use Rattle.std.proofs.Common.{◌≡◌, ℕ, zero, suc, ◌<◌, List, [], ◌∷◌, length, get_or, refl, ap, ◌∙◌, suc-le-suc, le_of_suc-le-suc, zero-lt-suc, arith}
+use Rattle.std.proofs.Common.{◌≡◌, ℕ, zero, suc, ◌<◌, List, [], ◌∷◌, length, get_or, refl, ap, arith}
 use Rattle.codes.specs.declared.slots.Slot.{Slot}
 use Rattle.codes.specs.Meaning.{Meaning, Lawful, One}
 use Rattle.codes.specs.Slots.{answered, Filled, Listed, OneList}
@@ -11,7 +11,7 @@ module _ {m : Meaning} (law : Lawful m) where
       let one = one_answer.correct m law s.word in (
         answered s.word one.0,
         (one.0, one.1, refl),
-        λ s' p. p.2 ∙ ap (answered s.word) (one.2 p.0 p.1),
+        λ s' p. cc (one.2 p.0 p.1),
       )
 
   pub one_list : (before : List Slot) → One (Listed m before)
@@ -30,14 +30,15 @@ module _ {m : Meaning} (law : Lawful m) where
     where
       each : {h : Slot} {r : List Slot} → Filled m s h → Listed m ss r → (p : ℕ) (d : Slot) → p < length (s ∷ ss) → Filled m (get_or (s ∷ ss) p d) (get_or (h ∷ r) p d)
       each f l zero d h = f
-      each f l (suc p) d h = l.each p d (le_of_suc-le-suc h)
+      each f l (suc p) d h = l.each p d (omega arith)
 
       only : (head : One (Filled m s)) (rest : One (Listed m ss)) (after : List Slot) → Listed m (s ∷ ss) after → after ≡ head.0 ∷ rest.0
       only head rest [] p = absurd (omega (arith, p.count))
       only head rest (x ∷ xs) p =
-          ap (λ (y : Slot). y ∷ xs) (head.2 x (p.each zero s (zero-lt-suc (length ss))))
-          ∙ ap (λ (ys : List Slot). head.0 ∷ ys)
-          (rest.2 xs (record { count = omega (arith, p.count); each = λ q d h. p.each (suc q) d (suc-le-suc h) }))
+          cc (
+            head.2 x (p.each zero s (omega arith)),
+            rest.2 xs (record { count = omega (arith, p.count); each = λ q d h. p.each (suc q) d (omega arith) }),
+          )
 
 pub one_lists : OneList
 one_lists m law before = one_list law before

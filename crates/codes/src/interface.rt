@@ -43,6 +43,7 @@ pub trait Code {
 }
 
 /// What a number has above its lowest bits.
+#[tactic(auto, using(crate::proofs::Answering::widest))]
 fn high_bits(number: u64, bits: u32) -> u64
     ensures none { result ≡ 0 → number < 2 ^ bits }
     ensures some { 0 < result → 2 ^ bits ≤ number }
@@ -57,19 +58,14 @@ pub fn fits_in(number: u64, bits: u32) -> bool
     high_bits(number, bits) == 0
 }
 
-/// What a lawful code means leaves exactly one answer to each call, whatever the code is made of.
-fn one_answer()
-    ensures { OneAnswer }
-{}
-
 /// The calls of a code: shape, encode and correct.
 const CALLS: usize = 3;
 
 /// How many calls a code has. Each has exactly one answer that the contracts leave it.
+#[tactic(auto, using(crate::proofs::Answering::one_answer))]
 pub fn calls_with_one_answer() -> usize
     ensures value { result ≡ 3 }
     ensures laws { OneAnswer }
 {
-    one_answer();
     CALLS
 }
