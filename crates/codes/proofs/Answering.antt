@@ -18,6 +18,9 @@ when_from false p q = q refl
 pub short_by_shift : (w n : ℕ) → w / 2 ^ n ≡ 0 → w < 2 ^ n
 short_by_shift w n h = grind (arith, pow_pos n)
 
+pub long_by_shift : (w n : ℕ) → 0 < w / 2 ^ n → 2 ^ n ≤ w
+long_by_shift w n h = grind (arith, pow_pos n)
+
 -- a width past the 64 bits of a number
 pub widest : (n : ℕ) → 64 ≤ n → 2 ^ 64 ≤ 2 ^ n
 widest n l = pow_mono l

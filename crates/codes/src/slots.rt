@@ -6,6 +6,7 @@ use crate::fault::Cause;
 use crate::interface::Code;
 
 /// A word, and what correcting it came to: its verdict is the cause of the refusal, or none.
+// No `Result`: a refused slot has a message and a pattern too, which are 0.
 #[derive(Clone, Copy, PartialEq, Eq, Debug)]
 pub struct Slot {
     pub word: u64,

@@ -35,6 +35,7 @@ pub fn two_cars(rt: &impl Print) -> Result<(), Stop> {
     hear(rt, "office", &code, codeword ^ FIVE)
 }
 
+// Another code and other flips than above: what both share is `hear`.
 /// A pile of layers: Q41 without its five highest message bits, and with a parity bit.
 pub fn pile(rt: &impl Print) -> Result<(), Stop> {
     let code = Parity::over(Shortened::over(Cyclic::of(Name::Q41), 5));

@@ -113,10 +113,10 @@ impl<R: Print> Cases<'_, R> {
         if let Ok(size) = first {
             println!(self.rt; "  four flips in each word: {size} bytes spelled")?;
         }
-        if let Err(fault) = second {
+        if second.is_err() {
             println!(self.rt; "  five flips in the first word:")?;
-            return Err(Stop::Refused(fault));
         }
+        second?;
         Ok(())
     }
 }

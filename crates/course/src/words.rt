@@ -1,4 +1,6 @@
 //! A floor table of twelve stops, and what is heard of its words.
+ghost use Rattle.std.specs.Iterator.{IsFinite};
+
 use crate::single::FIVE;
 use arrayvec::ArrayVec;
 use codes::fault::Fault;
@@ -38,6 +40,18 @@ pub fn spelled<F: FnOnce(&mut [u8]) -> Result<usize, Fault>>(spell: F) -> Result
     Ok(table)
 }
 
+/// A receiver that was offered these words, in order.
+fn offered<I: Iterator<Item = u64> + Drop>(words: I) -> Result<Receiver<Cyclic>, Fault>
+    requires can { I.can_next words }
+    requires ends { IsFinite (I.remaining words) }
+{
+    let mut receiver = Receiver::new(Cyclic::of(Name::Q41));
+    for word in words {
+        receiver.offer(word)?;
+    }
+    Ok(receiver)
+}
+
 /// The words of the table, as they are sent.
 #[derive(Drop)]
 pub struct Words([u64; WORDS]);
@@ -56,23 +70,24 @@ impl Words {
 
     /// A receiver that was offered the words, with these bits turned over in the spoiled one.
     pub fn heard(&self, pattern: u64) -> Result<Receiver<Cyclic>, Fault> {
-        let mut receiver = Receiver::new(Cyclic::of(Name::Q41));
-        for (place, word) in self.0.iter().enumerate() {
-            let flips = if place == SPOILED { pattern } else { 0 };
-            receiver.offer(*word ^ flips)?;
-        }
-        Ok(receiver)
+        offered(self.0.iter().enumerate().map(|(place, word)| {
+            if place == SPOILED {
+                word ^ pattern
+            } else {
+                *word
+            }
+        }))
     }
 
     /// A receiver whose software drops the spoiled word.
     pub fn heard_without(&self) -> Result<Receiver<Cyclic>, Fault> {
-        let mut receiver = Receiver::new(Cyclic::of(Name::Q41));
-        for (place, word) in self.0.iter().enumerate() {
-            if place != SPOILED {
-                receiver.offer(*word)?;
-            }
-        }
-        Ok(receiver)
+        offered(
+            self.0
+                .iter()
+                .enumerate()
+                .filter(|(place, _)| *place != SPOILED)
+                .map(|(_, word)| *word),
+        )
     }
 
     /// A report whose gap was settled by a repeat.

@@ -26,6 +26,7 @@ impl<C: Code> Shortened<C> {
 }
 
 /// A correction whose codeword has no bit above the length.
+// The parity layer lets a correction pass by another test: one function over both tests would only be `ok_or`.
 fn in_length(found: Correction, length: u32) -> Result<Correction, Fault>
     ensures { MatchResult result (λ a. (a ≡ found) × (found.codeword < 2 ^ length)) (λ f. (2 ^ length ≤ found.codeword) × (f ≡ fault BeyondReach Word 0)) }
 {
@@ -46,7 +47,7 @@ impl<C: Code> Code for Shortened<C> {
         Ok(Shape {
             length: below.length - cut,
             message_bits: below.message_bits - cut,
-            reach: below.reach,
+            ..below
         })
     }
 

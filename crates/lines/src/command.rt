@@ -35,6 +35,7 @@ fn read_clear(tail: &[u8]) -> Option<Call>
 }
 
 /// The command that a line stands for, absent where there is none. Its first letter says which.
+// One case a command, since each letter is followed by a text of its own form.
 fn find_command(line: &[u8]) -> Option<Call>
     ensures { Finds line.now result }
 {

@@ -10,6 +10,7 @@ use codes::fault::{Cause, Fault, Layer};
 use link::receiver::Answer;
 
 /// The answer to a line.
+// Not `Answered(Answer)`: a reply is told by its line, and whoever writes one names no receiver.
 #[derive(Clone, Copy, PartialEq, Eq, Debug)]
 pub enum Reply {
     /// The word settled its place.

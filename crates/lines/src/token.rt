@@ -5,6 +5,7 @@ ghost use Rattle.lines.specs.Token.{TokenWrites, AfterSpace, CutAtSpace};
 use crate::number::{Base, read_number};
 
 /// A part of a line, by what it is to be.
+// A name is a token too, though it is no number: every part of a line is one of these.
 #[derive(Clone, Copy)]
 pub(crate) enum Token<'a> {
     /// A code's name.

@@ -44,6 +44,7 @@ pub struct Report {
     ghost few: { array_vec_len heard ≤ 256 },
 }
 
+// Places and flips are spoken of apart, as two lists: reports are equal by their places alone.
 impl Report {
     ghost use Rattle.std.specs.Prelude.{◌<◌, [], ◌∷◌, ◌++◌, map, length, Some, MatchBool, sum, MatchResult, ◌≢◌, slice_set};
     ghost use Rattle.std.specs.List.{slice_get};

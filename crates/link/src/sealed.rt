@@ -46,6 +46,7 @@ impl<C: Code + Drop> Sealed<C> {
         ensures one { OneSpell }
     {
         one_spell();
+        // `spell` tests this too, but a gap is told only where a message has bits.
         if self.code.shape()?.message_bits == 0 {
             return Err(Fault::new(Cause::NoMessageBits));
         }

@@ -14,7 +14,7 @@ const ROOM: usize = 32;
 
 /// Answers each line of an open listing.
 fn converse(terminal: &mut Terminal, mut listing: Listing) -> io::Result<()> {
-    // No iterator over the lines is plainer: a reply goes out between two of them, by the same terminal.
+    // Counted, since input may have no end and every loop has one; no iterator, since replies go out by the same terminal.
     for _ in 0..u64::MAX {
         let Some(line) = terminal.line()? else {
             break;

@@ -49,6 +49,7 @@ pub fn replay<C: Code>(code: C, calls: &[Call]) -> Receiver<C>
 }
 
 /// Two runs, and whether their reports are equal.
+// A field and no method: the comparison is made before the receivers are handed on, and its outcome is a clause.
 #[derive(Drop)]
 pub struct Comparison<C, D> {
     pub first: Receiver<C>,
@@ -57,6 +58,7 @@ pub struct Comparison<C, D> {
 }
 
 /// Runs each list of calls on a new receiver of its own, and compares the reports.
+// Code and calls side by side, as `replay` takes them; a `Run` is for the call that takes four such pairs.
 pub fn compare<C: Code, D: Code>(
     one: C,
     calls: &[Call],

@@ -20,6 +20,7 @@ fn pattern_at(patterns: &[u64], i: usize) -> u64
 }
 
 /// Offers the words in order, each with its bits turned over, and stops at the first that is refused.
+// No `zip`: where the patterns end, the words go on and nothing is turned over.
 #[tactic(auto, using(crate::proofs::Carrying::arriving_none))]
 fn offer_all<C: Code>(
     receiver: &mut Receiver<C>,
@@ -36,6 +37,7 @@ fn offer_all<C: Code>(
     Ok(())
 }
 
+// The parts of a `Trip`, side by side: a trip carries itself by this call.
 /// Sends a table, turns over the bits of the pattern in each word, offers the words in order to a new receiver, seals it and spells.
 pub fn carry<C: Code + Drop>(
     code: C,

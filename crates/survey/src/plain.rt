@@ -71,6 +71,7 @@ impl fmt::Display for Plain {
 
 impl Plain {
     /// The same code with a parity bit.
+    // Every field is written: a struct with ghost fields takes no `..self`.
     pub fn with_parity(self) -> Plain {
         Plain {
             name: self.name,

@@ -1,5 +1,5 @@
 //! Codes of the library, each held to its numbers.
-ghost use Rattle.std.specs.Prelude.{◌≡◌, IfOk};
+ghost use Rattle.std.specs.Prelude.{◌≡◌, true, false, IfOk, MatchResult};
 
 use crate::plain::Plain;
 use crate::wrong::Wrong;
@@ -59,24 +59,34 @@ impl<C: Code> Subject<C> {
         }
     }
 
-    /// The answer to a word: this pattern, or a refusal where there is none.
-    pub fn answer(&self, word: u64, expected: Option<u64>) -> Result<Option<u64>, Wrong>
-        ensures { IfOk result (λ answer. answer ≡ expected) }
+    /// An answer to a word, if it is right.
+    fn judged(
+        &self,
+        word: u64,
+        answer: Option<u64>,
+        right: bool,
+    ) -> Result<Option<u64>, Wrong>
+        ensures { MatchResult result (λ given. (given ≡ answer) × (right ≡ true)) (λ _. right ≡ false) }
     {
-        if self.correct(word)? == expected {
-            Ok(expected)
+        if right {
+            Ok(answer)
         } else {
             Err(self.wrong(word))
         }
     }
 
+    /// The answer to a word: this pattern, or a refusal where there is none.
+    pub fn answer(&self, word: u64, expected: Option<u64>) -> Result<Option<u64>, Wrong>
+        ensures { IfOk result (λ answer. answer ≡ expected) }
+    {
+        let right = self.correct(word)? == expected;
+        self.judged(word, expected, right)
+    }
+
     /// The answer to a word whose nearest codeword is not known: a pattern that leads to a codeword within reach, or a refusal.
     pub fn answer_beyond(&self, word: u64) -> Result<Option<u64>, Wrong> {
         let answer = self.correct(word)?;
-        if answer.is_none_or(|pattern| self.plain.leads(word, pattern)) {
-            Ok(answer)
-        } else {
-            Err(self.wrong(word))
-        }
+        let right = answer.is_none_or(|pattern| self.plain.leads(word, pattern));
+        self.judged(word, answer, right)
     }
 }

@@ -30,7 +30,7 @@ impl<'a> Messages<'a> {
     fn fitting(list: &'a [u64], width: Width) -> Option<Messages<'a>>
         ensures { MatchOption result (NoTable width.bits list.now) (λ messages. (messages.list.now ≡ list.now) × (messages.width ≡ width)) }
     {
-        // `then_some` would make the value before it is known that each message fits.
+        // Tried with `then`: inside its closure it is not known that each message fits, as the value's ghost field asks.
         if list.iter().all(|message| fits_in(*message, width.bits)) {
             Some(Messages { list, width })
         } else {

@@ -32,8 +32,7 @@ impl Width {
     pub(crate) fn messages_for(self, size: u16) -> usize
         ensures { result ≡ messages_for self.bits size }
     {
-        let width = self.bits as usize;
-        (8 * (usize::from(size) + 2) + (width - 1)) / width
+        (8 * (usize::from(size) + 2)).div_ceil(self.bits as usize)
     }
 
     /// How many bits of the stream are in the last message.

@@ -25,6 +25,7 @@ impl Cyclic {
     }
 
     /// The code of a name.
+    // A maker and no `From`: what it makes is said by four clauses.
     pub fn of(name: Name) -> Cyclic
         ensures code { meaning_of result ≡ code_of (numbers_named name) }
         ensures multiples { Multiples (numbers_named name) }

@@ -58,7 +58,7 @@ impl Search<'_> {
         if self.syndrome.count_ones() <= self.code.generator.t {
             return Some(self.syndrome);
         }
-        // Not `or_else`: of a closure that calls a method of `Search`, no proof knows what it returned.
+        // Tried with `or_else`: its closure holds a `Search`, and of a call in it nothing is known to the proof.
         if let Some(pattern) = self.one_message_flip() {
             return Some(pattern);
         }
@@ -84,7 +84,7 @@ impl Search<'_> {
     pub(super) fn pattern(&self) -> Option<u64>
         ensures { MatchOption result (NoneAtAll self.now) (Sought self.now) }
     {
-        // Not `or_else`, as above.
+        // Tried with `or_else`, as above.
         if let Some(pattern) = self.few_message_flips() {
             return Some(pattern);
         }

@@ -103,6 +103,7 @@ fn says(listing: &mut Listing, line: &[u8], answer: &str) -> Result<(), Fail> {
     check_eq(count >= 1 && count <= 40, true)?;
     check_eq(&buffer[0..count - 1] == answer.as_bytes(), true)?;
     check_eq(buffer[count - 1] == b'\n', true)?;
+    // a check for each byte
     for byte in buffer[count..].iter() {
         check_eq(*byte == b'#', true)?;
     }
