@@ -45,17 +45,6 @@ fn raised(word: u64, below: Correction) -> Correction
     }
 }
 
-/// A correction that has no more flips than the reach. The parity bit counts among them.
-// The shortened layer lets a correction pass by another test: one function over both tests would only be `ok_or`.
-fn in_reach(found: Correction, reach: u32) -> Result<Correction, Fault>
-    ensures { MatchResult result (λ a. (a ≡ found) × (count_ones found.pattern ≤ reach)) (λ f. (reach < count_ones found.pattern) × (f ≡ fault BeyondReach Word 0)) }
-{
-    if found.pattern.count_ones() > reach {
-        return Err(Fault::new(Cause::BeyondReach));
-    }
-    Ok(found)
-}
-
 impl<C: Code> Code for Parity<C> {
     ghost means = { parity_over C.means };
 
@@ -72,18 +61,25 @@ impl<C: Code> Code for Parity<C> {
         })
     }
 
+    #[tactic(auto, using(crate::proofs::ParityCalls::parity_room, crate::specs::ParityLaws::parity_appended, crate::specs::ParityLaws::appended_message))]
     fn encode(&self, message: u64) -> Result<u64, Fault> {
         self.shape()?;
         let below = self.below.encode(message)?;
         Ok(append_parity(below))
     }
 
+    #[tactic(auto, using(crate::specs::ParityLaws::parity_beyond, crate::proofs::ParityCalls::parity_wide))]
     fn correct(&self, word: u64) -> Result<Correction, Fault> {
         let shape = self.shape()?;
         if !fits_in(word, shape.length) {
             return Err(Fault::new(Cause::WordTooLong));
         }
         let below = self.below.correct(word >> 1)?;
-        in_reach(raised(word, below), shape.reach)
+        let found = raised(word, below);
+        // The parity bit counts among the flips.
+        if found.pattern.count_ones() > shape.reach {
+            return Err(Fault::new(Cause::BeyondReach));
+        }
+        Ok(found)
     }
 }

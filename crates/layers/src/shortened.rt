@@ -25,17 +25,6 @@ impl<C: Code> Shortened<C> {
     }
 }
 
-/// A correction whose codeword has no bit above the length.
-// The parity layer lets a correction pass by another test: one function over both tests would only be `ok_or`.
-fn in_length(found: Correction, length: u32) -> Result<Correction, Fault>
-    ensures { MatchResult result (λ a. (a ≡ found) × (found.codeword < 2 ^ length)) (λ f. (2 ^ length ≤ found.codeword) × (f ≡ fault BeyondReach Word 0)) }
-{
-    if !fits_in(found.codeword, length) {
-        return Err(Fault::new(Cause::BeyondReach));
-    }
-    Ok(found)
-}
-
 impl<C: Code> Code for Shortened<C> {
     ghost means = { shortened_over C.means };
 
@@ -59,11 +48,16 @@ impl<C: Code> Code for Shortened<C> {
         self.below.encode(message)
     }
 
+    #[tactic(auto, using(crate::specs::ShortenedLaws::shorter_beyond, crate::specs::ShortenedLaws::shorter_from, crate::specs::ShortenedLaws::shorter_message, crate::proofs::ShortenedCalls::shorter_wide))]
     fn correct(&self, word: u64) -> Result<Correction, Fault> {
         let shape = self.shape()?;
         if !fits_in(word, shape.length) {
             return Err(Fault::new(Cause::WordTooLong));
         }
-        in_length(self.below.correct(word)?, shape.length)
+        let found = self.below.correct(word)?;
+        if !fits_in(found.codeword, shape.length) {
+            return Err(Fault::new(Cause::BeyondReach));
+        }
+        Ok(found)
     }
 }

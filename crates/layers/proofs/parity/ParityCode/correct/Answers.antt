@@ -1,19 +1,19 @@
-use Rattle.std.proofs.lemmas.Result.{err_from_is_err_and}
-use Rattle.layers.proofs.ParityCalls.{parity_refused, parity_judged}
+use Rattle.std.proofs.Common.{arith}
+use Rattle.std.proofs.lemmas.Grind.{common_steps}
+use Rattle.layers.specs.ParityLaws.{parity_only, parity_appended, appended_message}
 use Rattle.layers.proofs.parity.ParityCode.correct.Goals as goal
 
-pub returns-in_err-below : goal.returns-in_err-below
-returns-in_err-below g c =
-    let law = g.met.C.Code.lawful c.args.self.now.below in
-    let shape = c.in_ok-shape in
-    let p = err_from_is_err_and c.from_residual-in_err-below.result c.from_residual-in_err-below.ensures.1 in
-    rw (p.1, p.2)
-    (parity_refused law shape.shape shape.ensures c.args.word c.if-not-fits_in.ensures c.in_err-below.field-0.0 c.in_err-below.ensures)
+-- the codeword in reach below is beyond reach with its parity bit
+pub returns-then-found-shape : goal.returns-then-found-shape
+returns-then-found-shape g c =
+    let below = c.in_ok-below in
+    let beyond = parity_only (g.met.C.Code.lawful c.args.self.now.below) c.args.word below.below.codeword below.ensures.1.within in
+    grind (arith, common_steps, beyond)
 
 pub returns : goal.returns
 returns g c =
     let law = g.met.C.Code.lawful c.args.self.now.below in
-    let shape = c.in_ok-shape in
     let below = c.in_ok-below in
-    parity_judged law shape.shape shape.ensures c.args.word c.if-not-fits_in.ensures below.below c.raised.result below.ensures
-    c.raised.ensures c.in_reach.result c.in_reach.ensures
+    let word = parity_appended law below.below.codeword below.ensures.1.within.0 in
+    let message = appended_message law below.below.codeword in
+    grind (arith, common_steps, word, message)
