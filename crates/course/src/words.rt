@@ -70,13 +70,15 @@ impl Words {
 
     /// A receiver that was offered the words, with these bits turned over in the spoiled one.
     pub fn heard(&self, pattern: u64) -> Result<Receiver<Cyclic>, Fault> {
-        offered(self.0.iter().enumerate().map(|(place, word)| {
-            if place == SPOILED {
-                word ^ pattern
-            } else {
-                *word
-            }
-        }))
+        offered(
+            self.0.iter().enumerate().map(|(place, word)| {
+                if place == SPOILED {
+                    word ^ pattern
+                } else {
+                    *word
+                }
+            }),
+        )
     }
 
     /// A receiver whose software drops the spoiled word.

@@ -60,12 +60,7 @@ impl<C: Code> Subject<C> {
     }
 
     /// An answer to a word, if it is right.
-    fn judged(
-        &self,
-        word: u64,
-        answer: Option<u64>,
-        right: bool,
-    ) -> Result<Option<u64>, Wrong>
+    fn judged(&self, word: u64, answer: Option<u64>, right: bool) -> Result<Option<u64>, Wrong>
         ensures { MatchResult result (λ given. (given ≡ answer) × (right ≡ true)) (λ _. right ≡ false) }
     {
         if right {
