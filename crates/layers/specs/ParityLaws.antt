@@ -1,9 +1,10 @@
 -- The laws of a code with a parity bit, from the laws of the code below.
-use Rattle.std.specs.Prelude.{◌≡◌, ℕ, ◌+◌, ◌-◌, ◌/◌, ◌%◌, ◌^◌, ◌<◌, true, ◌==◌, bit_xor, count_ones, nat_le}
-use Rattle.std.proofs.Common.{sym, ap, subst, ◌∙◌, ⊎_elim, arith, pow-add, shr-shr}
+use Rattle.std.specs.Prelude.{◌≡◌, ℕ, ◌+◌, ◌-◌, ◌/◌, ◌%◌, ◌^◌, ◌<◌, true, bit_xor, count_ones, nat_le}
+use Rattle.std.proofs.Common.{sym, ap, ◌∙◌, arith, pow-add, shr-shr}
 use Rattle.std.proofs.lemmas.Nat.{xor_shr}
 use Rattle.std.specs.Int.Count.{ones_step}
-use Rattle.std.proofs.lemmas.Bool.{eqb-true, eq-eqb, leb-true, and_parts, and_from, cases_eq, cases_lt}
+use Rattle.std.proofs.lemmas.Bool.{leb-true, and_parts}
+use Rattle.std.proofs.lemmas.Grind.{common_steps}
 use Rattle.codes.specs.Meaning.{Meaning, Lawful, One, Carries, Within, Beyond, message, distance}
 use Rattle.codes.proofs.Distance.{ones_xor, distance_step}
 use Rattle.codes.proofs.Reach.{one_within}
@@ -17,16 +18,13 @@ append_even v = omega (arith, ones_step (append_parity v), ap count_ones (append
 
 module _ {m : Meaning} (law : Lawful m) where
   pub parity_parts : (w : ℕ) → (with_parity m).codeword w ≡ true → (m.codeword (w / 2) ≡ true) × (count_ones w % 2 ≡ 0)
-  parity_parts w h =
-      let both = and_parts (m.codeword (w / 2)) (count_ones w % 2 == 0) h in
-      (both.0, eqb-true (count_ones w % 2) 0 both.1)
+  parity_parts w h = grind (arith, common_steps)
 
   parity_from : (w : ℕ) → m.codeword (w / 2) ≡ true → count_ones w % 2 ≡ 0 → (with_parity m).codeword w ≡ true
-  parity_from w h e = and_from (m.codeword (w / 2)) (count_ones w % 2 == 0) h (eq-eqb (count_ones w % 2) 0 e)
+  parity_from w h e = grind (arith, common_steps)
 
   pub parity_appended : (v : ℕ) → m.codeword v ≡ true → (with_parity m).codeword (append_parity v) ≡ true
-  parity_appended v h =
-      parity_from (append_parity v) (subst (λ (x : ℕ). m.codeword x ≡ true) (sym (append_high v)) h) (append_even v)
+  parity_appended v h = parity_from (append_parity v) (rw (append_high v) h) (append_even v)
 
   -- the message is that of the upper part
   parity_message : (w : ℕ) → message (with_parity m) w ≡ message m (w / 2)
@@ -61,12 +59,9 @@ module _ {m : Meaning} (law : Lawful m) where
     encodes = parity_encodes;
     sums = λ v w p q.
         parity_from (bit_xor v w)
-        (subst (λ (x : ℕ). m.codeword x ≡ true) (sym (xor_shr v w 1)) (law.sums (v / 2) (w / 2) (parity_parts v p).0 (parity_parts w q).0))
+        (rw (xor_shr v w 1) (law.sums (v / 2) (w / 2) (parity_parts v p).0 (parity_parts w q).0))
         (omega (arith, ones_xor v w, (parity_parts v p).1, (parity_parts w q).1));
-    apart = λ v w p q ne.
-        ⊎_elim (λ e. absurd (ne (parity_same v w p q e)))
-        (λ ne'. omega (arith, distance_step v w, law.apart (v / 2) (w / 2) (parity_parts v p).0 (parity_parts w q).0 ne'))
-        (cases_eq (v / 2) (w / 2));
+    apart = λ v w p q ne. grind (arith, parity_same v w p q, distance_step v w, law.apart (v / 2) (w / 2) (parity_parts v p).0 (parity_parts w q).0);
   }
 
   -- where the code below has no codeword in reach, none is in reach here
@@ -76,12 +71,5 @@ module _ {m : Meaning} (law : Lawful m) where
   -- and where it has one, none but that with its parity bit is
   pub parity_only : (w v : ℕ) → Within m (w / 2) v → m.t < distance w (append_parity v) → Beyond (with_parity m) w
   parity_only w v near far u h =
-      ⊎_elim
-      (λ e.
-      let same : u ≡ append_parity v = parity_same u (append_parity v) h (parity_appended v near.0) (e ∙ sym (append_high v)) in
-      subst (λ (x : ℕ). m.t < distance w x) (sym same) far)
-      (λ ne.
-      ⊎_elim (λ l. l)
-      (λ l. absurd (ne (one_within law (w / 2) (u / 2) v ((parity_parts u h).0, omega (arith, distance_step w u, l)) near)))
-      (cases_lt m.t (distance w u)))
-      (cases_eq (u / 2) v)
+      let same = parity_same u (append_parity v) h (parity_appended v near.0) in
+      grind (arith, same, append_high v, parity_parts u h, one_within law (w / 2) (u / 2) v, distance_step w u)

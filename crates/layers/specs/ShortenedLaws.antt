@@ -1,20 +1,18 @@
 -- The laws of a shortened code, from the laws of the code below.
-use Rattle.std.specs.Prelude.{◌≡◌, ℕ, ◌+◌, ◌-◌, ◌*◌, ◌/◌, ◌^◌, ◌<◌, ◌≤◌, true, bit_xor, nat_lt}
-use Rattle.std.proofs.Common.{sym, ap, subst, ◌∙◌, ⊎_elim, div-lt_iff_lt-mul, arith, pow-add, pow_mono, pow_pos}
+use Rattle.std.specs.Prelude.{◌≡◌, ℕ, ◌+◌, ◌-◌, ◌*◌, ◌/◌, ◌^◌, ◌<◌, ◌≤◌, true, bit_xor}
+use Rattle.std.proofs.Common.{ap, ◌∙◌, div-lt_iff_lt-mul, arith, pow-add, pow_mono, pow_pos}
 use Rattle.std.proofs.lemmas.Nat.{xor_lt}
-use Rattle.std.proofs.lemmas.Bool.{ltb-true, lt-ltb, and_parts, and_from, cases_lt}
-use Rattle.codes.specs.Meaning.{Meaning, Lawful, One, Carries, Within, Beyond, message, distance}
+use Rattle.std.proofs.lemmas.Grind.{common_steps}
+use Rattle.codes.specs.Meaning.{Meaning, Lawful, One, Carries, Within, Beyond, message}
 use Rattle.codes.proofs.Reach.{one_within}
 use Rattle.layers.specs.Shortened.{shorten}
 
 module _ {m : Meaning} (law : Lawful m) (j : ℕ) where
   shorter_parts : (w : ℕ) → (shorten m j).codeword w ≡ true → (m.codeword w ≡ true) × (w < 2 ^ (shorten m j).n)
-  shorter_parts w h =
-      let both = and_parts (m.codeword w) (nat_lt w (2 ^ (shorten m j).n)) h in
-      (both.0, ltb-true w (2 ^ (shorten m j).n) both.1)
+  shorter_parts w h = grind (arith, common_steps)
 
   pub shorter_from : (w : ℕ) → m.codeword w ≡ true → w < 2 ^ (shorten m j).n → (shorten m j).codeword w ≡ true
-  shorter_from w h l = and_from (m.codeword w) (nat_lt w (2 ^ (shorten m j).n)) h (lt-ltb w (2 ^ (shorten m j).n) l)
+  shorter_from w h l = grind (arith, common_steps)
 
   -- as many parity bits as below
   pub shorter_message : (w : ℕ) → message (shorten m j) w ≡ message m w
@@ -26,7 +24,7 @@ module _ {m : Meaning} (law : Lawful m) (j : ℕ) where
       let p = m.n - m.k in
       let top : w < 2 ^ (shorten m j).k * 2 ^ p = (div-lt_iff_lt-mul (pow_pos p)).0 h in
       let sum : (shorten m j).k + p ≡ (shorten m j).n = omega (arith, law.message_fits) in
-      subst (λ (x : ℕ). w < x) (sym (pow-add 2 (shorten m j).k p) ∙ ap (λ (x : ℕ). 2 ^ x) sum) top
+      rw (← sum, pow-add 2 (shorten m j).k p) top
 
   pub shorter_carries : (a v : ℕ) → a < 2 ^ (shorten m j).k → Carries m a v → Carries (shorten m j) a v
   shorter_carries a v h c = (shorter_from v c.0 (shorter_below v (omega (arith, c.1))), shorter_message v ∙ c.1)
@@ -35,7 +33,7 @@ module _ {m : Meaning} (law : Lawful m) (j : ℕ) where
   shorter_encodes a h =
       let wide : 2 ^ (shorten m j).k ≤ 2 ^ m.k = pow_mono (omega arith) in
       let one = law.encodes a (omega arith) in
-      (one.0, shorter_carries a one.0 h one.1, λ w p. one.2 w ((shorter_parts w p.0).0, sym (shorter_message w) ∙ p.1))
+      (one.0, shorter_carries a one.0 h one.1, λ w p. one.2 w (grind (arith, shorter_parts w p.0, shorter_message w)))
 
   pub shorter_lawful : Lawful (shorten m j)
   shorter_lawful = record {
@@ -55,9 +53,4 @@ module _ {m : Meaning} (law : Lawful m) (j : ℕ) where
 
   -- where the codeword in reach is too long, no shorter one is in reach
   pub shorter_only : (w v : ℕ) → Within m w v → 2 ^ (shorten m j).n ≤ v → Beyond (shorten m j) w
-  shorter_only w v near long u h =
-      ⊎_elim (λ l. l)
-      (λ l.
-      let same : u ≡ v = one_within law w u v ((shorter_parts u h).0, l) near in
-      absurd (omega (arith, (shorter_parts u h).1, same)))
-      (cases_lt m.t (distance w u))
+  shorter_only w v near long u h = grind (arith, shorter_parts u h, one_within law w u v)

@@ -61,7 +61,6 @@ impl<C: Code> Code for Parity<C> {
         })
     }
 
-    #[tactic(auto, using(crate::proofs::ParityCalls::parity_room, crate::specs::ParityLaws::parity_appended, crate::specs::ParityLaws::appended_message))]
     fn encode(&self, message: u64) -> Result<u64, Fault> {
         self.shape()?;
         let below = self.below.encode(message)?;
