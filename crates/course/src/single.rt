@@ -26,21 +26,31 @@ fn hear<C: Code>(rt: &impl Print, car: &str, code: &C, word: u64) -> Result<(), 
     Ok(())
 }
 
+/// One codeword, heard by two cars with other bits turned over.
+fn two_words<C: Code>(
+    rt: &impl Print,
+    name: &str,
+    code: &C,
+    message: u64,
+    cars: [(&str, u64); 2],
+) -> Result<(), Stop> {
+    let codeword = code.encode(message)?;
+    println!(rt; "{name}: message {message:x} goes out as {codeword:x}")?;
+    let [(first, flips), (second, others)] = cars;
+    told(rt, hear(rt, first, code, codeword ^ flips))?;
+    hear(rt, second, code, codeword ^ others)
+}
+
 /// The same word over one code, heard by two cars.
 pub fn two_cars(rt: &impl Print) -> Result<(), Stop> {
     let code = Cyclic::of(Name::Q41);
-    let codeword = code.encode(MESSAGE)?;
-    println!(rt; "Q41: message {MESSAGE:x} goes out as {codeword:x}")?;
-    told(rt, hear(rt, "hotel", &code, codeword ^ FOUR))?;
-    hear(rt, "office", &code, codeword ^ FIVE)
+    let cars = [("hotel", FOUR), ("office", FIVE)];
+    two_words(rt, "Q41", &code, MESSAGE, cars)
 }
 
-// Another code and other flips than above: what both share is `hear`.
 /// A pile of layers: Q41 without its five highest message bits, and with a parity bit.
 pub fn pile(rt: &impl Print) -> Result<(), Stop> {
     let code = Parity::over(Shortened::over(Cyclic::of(Name::Q41), 5));
-    let codeword = code.encode(0x1234)?;
-    println!(rt; "Q41 shortened by 5, with parity: message 1234 goes out as {codeword:x}")?;
-    told(rt, hear(rt, "service", &code, codeword ^ 0xf0))?;
-    hear(rt, "service", &code, codeword ^ 0xf1)
+    let cars = [("service", 0xf0), ("service", 0xf1)];
+    two_words(rt, "Q41 shortened by 5, with parity", &code, 0x1234, cars)
 }

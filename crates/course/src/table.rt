@@ -42,6 +42,8 @@ impl<R: Print> Cases<'_, R> {
         Ok(())
     }
 
+    /// Closes a sealed report.
+    // Two texts: a figure that is absent is no number.
     fn close(&self, sealed: Sealed<Cyclic>) -> Result<(), Stop> {
         match sealed.close() {
             Some(figure) => println!(self.rt; "  line figure: {figure}")?,
