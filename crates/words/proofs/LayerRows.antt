@@ -1,13 +1,13 @@
 -- Rows over layers, each from a row of the code below.
-use Rattle.std.proofs.Common.{◌≡◌, ℕ, ◌+◌, ◌-◌, ◌*◌, ◌/◌, ◌%◌, ◌^◌, ◌<◌, ◌≤◌, true, leb, sym, refl, ap, ◌∙◌, subst, inl, inr}
+use Rattle.std.proofs.Common.{◌≡◌, ℕ, ◌+◌, ◌-◌, ◌*◌, ◌/◌, ◌%◌, ◌^◌, ◌<◌, ◌≤◌, true, sym, refl, ap, ◌∙◌, inl, inr, arith}
 use lib.Bits.{bit_xor}
 use lib.Count.{ones}
-use Rattle.std.proofs.lemmas.Bool.{and_from, le-leb}
+use Rattle.std.proofs.lemmas.Grind.{common_steps}
 use Rattle.codes.specs.declared.fault.Cause.TheVariants.{BeyondReach}
 use Rattle.codes.specs.declared.fault.Layer.TheVariants.{Word}
 use Rattle.codes.specs.Fault.{fault}
 use Rattle.codes.specs.Interface.{Corrects}
-use Rattle.codes.specs.Meaning.{Meaning, Lawful, Carries, Beyond, distance}
+use Rattle.codes.specs.Meaning.{Meaning, Lawful, Beyond, distance}
 use Rattle.cyclic.specs.Linear.{xor_cancel}
 use Rattle.layers.specs.Parity.{with_parity, append_parity}
 use Rattle.layers.specs.Shortened.{shorten}
@@ -25,14 +25,14 @@ answered m w a e serves short right = ((serves, (short, ((bit_xor w e, right.wit
 
 module _ {m : Meaning} (law : Lawful m) (room : m.n + 1 ≤ 42) where
   serves : m.serves ≡ true → (with_parity m).serves ≡ true
-  serves h = and_from m.serves (leb (m.n + 1) 42) h (le-leb (m.n + 1) 42 room)
+  serves h = grind (arith, common_steps)
 
   with_bit : (v b : ℕ) → ones v % 2 ≡ b → append_parity v ≡ v * 2 + b
   with_bit v b e = ap (λ (x : ℕ). v * 2 + x) e
 
   pub parity_encodes : (a v b : ℕ) → Stands (encodes m a v) → ones v % 2 ≡ b → Stands (encodes (with_parity m) a (v * 2 + b))
   parity_encodes a v b row e =
-      ((serves row.0.0, row.0.1), subst (Carries (with_parity m) a) (with_bit v b e) (parity_appended law v row.1.0, appended_message law v ∙ row.1.1))
+      ((serves row.0.0, row.0.1), rw (← with_bit v b e) (parity_appended law v row.1.0, appended_message law v ∙ row.1.1))
 
   module _ (w a e b : ℕ) (row : Stands (corrects m (w / 2) a e)) (bit : ones (bit_xor (w / 2) e) % 2 ≡ b) (short : w < 2 ^ (m.n + 1)) where
     -- the codeword that the parity bit is appended to
@@ -43,17 +43,14 @@ module _ {m : Meaning} (law : Lawful m) (room : m.n + 1 ≤ 42) where
     unfolding below
     parity_refuses far =
         refused (with_parity m) w (serves row.0.0) short
-        (parity_only law w below row.1.within (subst (λ (x : ℕ). m.t < distance w x) (sym (with_bit below b bit)) far))
+        (parity_only law w below row.1.within (rw (with_bit below b bit) far))
 
     pub parity_corrects : (p : ℕ) → bit_xor w p ≡ bit_xor (w / 2) e * 2 + b → ones p ≤ m.t → Stands (corrects (with_parity m) w a p)
     unfolding below
     parity_corrects p is light =
         let same : bit_xor w p ≡ append_parity below = is ∙ sym (with_bit below b bit) in
         answered (with_parity m) w a p (serves row.0.0) short (record {
-          within = (
-            subst (λ (x : ℕ). (with_parity m).codeword x ≡ true) (sym same) (parity_appended law below row.1.within.0),
-            subst (λ (x : ℕ). ones x ≤ m.t) (sym (xor_cancel w p)) light,
-          );
+          within = (rw same (parity_appended law below row.1.within.0), rw (xor_cancel w p) light);
           carried = row.1.carried ∙ sym (ap (λ (x : ℕ). x / 2 ^ (m.n + 1 - m.k)) same ∙ appended_message law below);
           flips = sym (xor_cancel w p);
         })

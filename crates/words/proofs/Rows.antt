@@ -1,11 +1,10 @@
 -- Rows over the codes of generators, each from a computed test.
-use Rattle.std.proofs.Common.{ℕ, suc, ◌*◌, ◌/◌, ◌^◌, ◌<◌, ◌≤◌, Bool, ◌&&◌, T, eqb, ltb, leb, Ok, sym, refl, subst, inl, inr, eqb→eq, ltb→lt, leb→le}
+use Rattle.std.proofs.Common.{ℕ, suc, ◌*◌, ◌/◌, ◌^◌, ◌≤◌, Bool, ◌&&◌, T, eqb, ltb, leb, refl, inl, inr, eqb→eq, ltb→lt, leb→le}
 use lib.Bits.{bit_xor}
 use lib.Count.{ones}
 use Rattle.codes.specs.declared.fault.Cause.TheVariants.{BeyondReach}
 use Rattle.codes.specs.declared.fault.Layer.TheVariants.{Word}
 use Rattle.codes.specs.Fault.{fault}
-use Rattle.codes.specs.Interface.{Encoded, Corrects}
 use Rattle.cyclic.specs.Sound.{weight, spans}
 use Rattle.cyclic.specs.Generator.{Numbers, code_of, parity_bits, syndrome}
 use Rattle.cyclic.specs.Search.{Pattern}
@@ -26,7 +25,7 @@ module _ (c : Numbers) (f : Holds c) where
   encodes_row a v h =
       let parts = both (ltb a (2 ^ c.k)) _ h in
       let short = ltb→lt a (2 ^ c.k) parts.0 in
-      subst (λ (x : ℕ). Encoded (code_of c) a (Ok x)) (sym (eqb→eq v (systematic c f a) parts.1)) ((refl, (short, tt)), encoded c f a short)
+      rw (eqb→eq v (systematic c f a) parts.1) ((refl, (short, tt)), encoded c f a short)
 
   unfoldable pub correcting : ℕ → ℕ → ℕ → Bool
   correcting w a e =
@@ -44,11 +43,11 @@ module _ (c : Numbers) (f : Holds c) where
       record {
         below = ltb→lt e (2 ^ c.n) h2.0;
         remainder = eqb→eq (syndrome c e) (syndrome c w) h3.0;
-        light = subst (λ (x : ℕ). x ≤ c.t) (weight_ones e) (leb→le (weight e) c.t h4.0);
+        light = rw (← weight_ones e) (leb→le (weight e) c.t h4.0);
       } in
       let answer = found c f w e short pattern in (
         (refl, (short, ((bit_xor w e, answer.within), tt))),
-        subst (λ (x : ℕ). Corrects (code_of c) w (record { codeword = bit_xor w e; message = x; pattern = e })) (sym (eqb→eq a (bit_xor w e / 2 ^ parity_bits c) h4.1)) answer,
+        rw (eqb→eq a (bit_xor w e / 2 ^ parity_bits c) h4.1) answer,
       )
 
   -- no pattern of this syndrome has at most two flips in message bits
@@ -59,7 +58,7 @@ module _ (c : Numbers) (f : Holds c) where
   unfolding alone
   alone_none s h =
       let a = both (ltb c.t (weight s)) _ h in
-      few_none c f s (subst (λ (x : ℕ). c.t < x) (weight_ones s) (ltb→lt c.t (weight s) a.0))
+      few_none c f s (rw (← weight_ones s) (ltb→lt c.t (weight s) a.0))
       (spans_heavy (parity_bits c) c.generator c.k 2 (suc c.t) (parity_bits c) s (syndrome c (2 ^ parity_bits c)) refl a.1)
 
   unfoldable pub refusing : ℕ → Bool

@@ -1,5 +1,5 @@
 -- The table of checked words stands.
-use Rattle.std.proofs.Common.{◌≡◌, ℕ, zero, suc, ◌%◌, ◌<◌, ◌≤◌, [], ◌∷◌, get_or, sym, refl, ap, ◌∙◌, subst, arith, lit<, lit≤}
+use Rattle.std.proofs.Common.{◌≡◌, ℕ, zero, suc, ◌%◌, ◌<◌, ◌≤◌, [], ◌∷◌, get_or, sym, refl, ◌∙◌, subst, arith, lit<, lit≤}
 use lib.Count.{ones}
 use Rattle.std.proofs.lemmas.List.{get_or_past}
 use Rattle.codes.specs.Meaning.{Lawful, Carries}
@@ -16,13 +16,13 @@ use Rattle.words.proofs.LayerRows.{parity_encodes, parity_refuses, parity_correc
 
 -- the weights that the rows need
 odd : (w : ℕ) → weight w % 2 ≡ 1 → ones w % 2 ≡ 1
-odd w e = ap (λ (x : ℕ). x % 2) (sym (weight_ones w)) ∙ e
+odd w e = rw (← weight_ones w) e
 
 light : (w t : ℕ) → weight w ≤ t → ones w ≤ t
-light w t h = subst (λ (x : ℕ). x ≤ t) (weight_ones w) h
+light w t h = rw (← weight_ones w) h
 
 heavy : (w t : ℕ) → t < weight w → t < ones w
-heavy w t h = subst (λ (x : ℕ). t < x) (weight_ones w) h
+heavy w t h = rw (← weight_ones w) h
 
 g23_lawful : Lawful (code_of g23)
 g23_lawful = lawful g23 g23_holds

@@ -6,17 +6,12 @@ ghost use Rattle.words.specs.Words.{Stand, words};
 
 const WORDS: usize = 13;
 
-/// Each row of the table is an answer of its code.
-fn words_stand()
-    ensures { Stand words }
-{}
-
-/// How many words are in the table that is proved.
+/// How many words are in the table that is proved. Each row of it is an answer of its code.
+#[tactic(auto, using(crate::proofs::Table::all_stand))]
 pub fn checked_words() -> usize
     ensures value { result ≡ length words }
     ensures stand { Stand words }
 {
-    words_stand();
     WORDS
 }
 
