@@ -42,20 +42,12 @@ pub trait Code {
     ghost lawful: { (c : Self) → Lawful (means c) };
 }
 
-/// What a number has above its lowest bits.
-#[tactic(auto, using(crate::proofs::Answering::widest))]
-fn high_bits(number: u64, bits: u32) -> u64
-    ensures none { result ≡ 0 → number < 2 ^ bits }
-    ensures some { 0 < result → 2 ^ bits ≤ number }
-{
-    if bits >= 64 { 0 } else { number >> bits }
-}
-
 /// Whether a number has at most so many bits.
+#[tactic(auto, using(crate::proofs::Answering::widest, crate::proofs::Answering::width_by_shift))]
 pub fn fits_in(number: u64, bits: u32) -> bool
     ensures { MatchBool result (number < 2 ^ bits) (2 ^ bits ≤ number) }
 {
-    high_bits(number, bits) == 0
+    bits >= 64 || number >> bits == 0
 }
 
 /// The calls of a code: shape, encode and correct.
