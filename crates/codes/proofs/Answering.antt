@@ -1,7 +1,8 @@
 -- The refusals of a code, each from what its tests found, and that a lawful meaning leaves one answer.
-use Rattle.std.proofs.Common.{◌≡◌, ℕ, ◌/◌, ◌^◌, ◌<◌, ◌≤◌, Bool, true, false, [], ◌∷◌, MatchBool, refl, arith, pow_mono, pow_pos}
+use Rattle.std.proofs.Common.{◌≡◌, ℕ, ◌/◌, ◌^◌, ◌<◌, ◌≤◌, ◌≢◌, nat_eq, Bool, true, false, [], ◌∷◌, MatchBool, refl, arith, pow_mono, pow_pos}
 use lib.Bits.{bit_xor}
-use Rattle.std.proofs.lemmas.Bool.{both_ways, cases_Bool, cases_lt}
+use Rattle.std.proofs.lemmas.Bool.{both_ways, cases_Bool, cases_lt, eqb-true}
+use Rattle.std.proofs.lemmas.Bool.Decides.{nat_tests}
 use Rattle.codes.specs.declared.fault.Cause.TheVariants.{OutOfService, WordTooLong, MessageTooLong, BeyondReach}
 use Rattle.codes.specs.declared.interface.Correction.{Correction}
 use Rattle.codes.specs.declared.interface.Shape.{Shape}
@@ -18,8 +19,10 @@ when_from false p q = q refl
 pub short_by_shift : (w n : ℕ) → w / 2 ^ n ≡ 0 → w < 2 ^ n
 short_by_shift w n h = grind (arith, pow_pos n)
 
-pub long_by_shift : (w n : ℕ) → 0 < w / 2 ^ n → 2 ^ n ≤ w
-long_by_shift w n h = grind (arith, pow_pos n)
+pub width_by_shift : (w n : ℕ) → MatchBool (nat_eq (w / 2 ^ n) 0) (w < 2 ^ n) (2 ^ n ≤ w)
+width_by_shift w n =
+    when_from (nat_eq (w / 2 ^ n) 0) (λ e. short_by_shift w n (eqb-true (w / 2 ^ n) 0 e))
+    (λ e. let long : w / 2 ^ n ≢ 0 = grind (arith, nat_tests) in grind (arith, pow_pos n))
 
 -- a width past the 64 bits of a number
 pub widest : (n : ℕ) → 64 ≤ n → 2 ^ 64 ≤ 2 ^ n

@@ -9,8 +9,5 @@ module _ {X : Type 0} (P : X → X → Type 0) where
     pub done : (p : ℕ) (d : X) → p < i → p < length xs → P (get_or xs p d) (get_or ys p d)
     pub rest : (p : ℕ) (d : X) → i ≤ p → get_or ys p d ≡ get_or xs p d
 
-  pub replaced_none : (xs : List X) → Replaced 0 xs xs
-  replaced_none xs = grind arith
-
   pub replaced_more : (i : ℕ) (xs ys : List X) (y e : X) → Replaced i xs ys → i < length xs → P (get_or ys i e) y → Replaced (i + 1) xs (set ys i y)
   replaced_more i xs ys y e so l h = grind (arith, common_steps)

@@ -42,21 +42,13 @@ pub trait Code {
     ghost lawful: { (c : Self) → Lawful (means c) };
 }
 
-/// What a number has above its lowest bits.
-#[tactic(auto, using(crate::proofs::Answering::widest, crate::proofs::Answering::short_by_shift, crate::proofs::Answering::long_by_shift))]
-fn high_bits(number: u64, bits: u32) -> u64
-    ensures none { result ≡ 0 → number < 2 ^ bits }
-    ensures some { 0 < result → 2 ^ bits ≤ number }
-{
-    number.checked_shr(bits).unwrap_or(0)
-}
-
 /// Whether a number has at most so many bits.
 // Who asks refuses for a cause of its own, so this is a test and no `Result`.
+#[tactic(auto, using(crate::proofs::Answering::widest, crate::proofs::Answering::width_by_shift))]
 pub fn fits_in(number: u64, bits: u32) -> bool
     ensures { MatchBool result (number < 2 ^ bits) (2 ^ bits ≤ number) }
 {
-    high_bits(number, bits) == 0
+    bits >= 64 || number >> bits == 0
 }
 
 /// The calls of a code: shape, encode and correct.

@@ -56,7 +56,7 @@ impl Slot {
 }
 
 /// Corrects the word of each slot. It never refuses: each slot has a verdict of its own.
-#[tactic(auto, using(crate::proofs::InPlace::replaced_none, crate::proofs::Lists::one_lists))]
+#[tactic(auto, using(crate::proofs::Lists::one_lists))]
 pub fn correct_list<C: Code>(code: &C, slots: &mut [Slot])
     ensures listed { Listed (C.means code.now) slots.old slots.new }
     ensures one { OneList }

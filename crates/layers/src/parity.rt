@@ -1,8 +1,5 @@
 //! A code with one more bit, lowest, that makes the number of ones even.
-ghost use Rattle.std.specs.Prelude.{◌≡◌, ◌^◌, ◌<◌, ◌≤◌, MatchResult, count_ones};
-ghost use Rattle.codes.specs.Fault.{fault};
-ghost use Rattle.codes.specs.declared.fault.Cause.TheVariants.{BeyondReach};
-ghost use Rattle.codes.specs.declared.fault.Layer.TheVariants.{Word};
+ghost use Rattle.std.specs.Prelude.{◌≡◌, ◌^◌, ◌<◌};
 ghost use Rattle.layers.specs.Parity.{with_parity, append_parity, raise, parity_over};
 ghost use Rattle.layers.specs.ParityLaws.{parity_lawful};
 

@@ -1,8 +1,5 @@
 //! A code whose highest message bits are always 0, and are left out.
-ghost use Rattle.std.specs.Prelude.{◌≡◌, ◌^◌, ◌<◌, ◌≤◌, MatchResult};
-ghost use Rattle.codes.specs.Fault.{fault};
-ghost use Rattle.codes.specs.declared.fault.Cause.TheVariants.{BeyondReach};
-ghost use Rattle.codes.specs.declared.fault.Layer.TheVariants.{Word};
+ghost use Rattle.std.specs.Prelude.{◌≡◌};
 ghost use Rattle.layers.specs.Shortened.{shorten, shortened_over};
 ghost use Rattle.layers.specs.ShortenedLaws.{shorter_lawful};
 
