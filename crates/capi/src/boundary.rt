@@ -1,6 +1,5 @@
 //! Codes by number, and what C is told of a call.
 ghost use Rattle.std.specs.Prelude.{◌≡◌, MatchOption, MatchResult};
-ghost use Rattle.lines.specs.declared.heading.Heading.{Heading as Named};
 ghost use Rattle.capi.specs.declared.boundary.Refusal.TheVariants.{UnknownCode, Faulty};
 ghost use Rattle.capi.specs.Boundary.{name_number, code_number, NamesNone, NumbersNone, Picks};
 ghost use Rattle.capi.specs.Steps.{refusal_number, told, kept};

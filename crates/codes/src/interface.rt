@@ -1,5 +1,5 @@
 //! What every code answers, and what it owes.
-ghost use Rattle.std.specs.Prelude.{◌≡◌, ℕ, ◌^◌, ◌<◌, ◌≤◌, Bool, MatchBool};
+ghost use Rattle.std.specs.Prelude.{◌≡◌, ◌^◌, ◌<◌, ◌≤◌, MatchBool};
 ghost use Rattle.codes.specs.Meaning.{Meaning, Lawful};
 ghost use Rattle.codes.specs.Interface.{Shaped, Encoded, Corrected, OneAnswer};
 

@@ -3,7 +3,7 @@ ghost use Rattle.std.specs.Prelude.{◌≡◌, ◌≤◌, length};
 ghost use Rattle.codes.specs.declared.fault.Cause.TheVariants.{TooShort};
 ghost use Rattle.codes.specs.declared.fault.Layer.TheVariants.{Table};
 ghost use Rattle.codes.specs.Fault.{fault};
-ghost use Rattle.lines.specs.Reply.{reply_words, reply_text, Written, OneWriting, Told};
+ghost use Rattle.lines.specs.Reply.{reply_words, Written, OneWriting, Told};
 
 use crate::line::Line;
 use codes::fault::{Cause, Fault, Layer};

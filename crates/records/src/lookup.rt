@@ -1,5 +1,5 @@
 //! Finds a floor's time in a table.
-ghost use Rattle.std.specs.Prelude.{◌≡◌, length};
+ghost use Rattle.std.specs.Prelude.{◌≡◌};
 ghost use Rattle.std.specs.List.{slice_get};
 ghost use Rattle.records.specs.Lookup.{entries, LookedUp, Entry};
 ghost use Rattle.records.specs.Steps.{FirstOf};

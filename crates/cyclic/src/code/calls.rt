@@ -1,7 +1,6 @@
 //! The calls of a cyclic code.
-ghost use Rattle.std.specs.Prelude.{◌≡◌, ◌^◌, ◌<◌, MatchOption};
-ghost use Rattle.codes.specs.Interface.{Corrects};
-ghost use Rattle.codes.specs.Meaning.{Carries, Beyond};
+ghost use Rattle.std.specs.Prelude.{◌≡◌, ◌^◌, ◌<◌};
+ghost use Rattle.codes.specs.Meaning.{Carries};
 ghost use Rattle.cyclic.specs.Generator.{numbers};
 ghost use Rattle.cyclic.specs.Code.{meaning_of, correction};
 ghost use Rattle.cyclic.specs.Codewords;
