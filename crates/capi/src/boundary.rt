@@ -45,6 +45,7 @@ impl Refusal {
 const PARITY: u32 = 4;
 
 /// The name of a code without the parity layer, by its number.
+// The numbers are those of the header.
 fn name_of(number: u32) -> Option<Name>
     ensures { MatchOption result (NamesNone number) (λ n. name_number n ≡ number) }
 {

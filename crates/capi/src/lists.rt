@@ -44,7 +44,7 @@ fn fill_all(code: &Choice, slots: &mut [WzSlot])
 }
 
 /// Corrects a list in place, by the code of a number.
-// What stays where no code has the number is a clause of its own here, in sending and in receiving: each lends something else.
+// What stays where no code has the number is a clause of its own here, in sending and in receiving: each is lent something else.
 fn correct_list(code: u32, slots: &mut [WzSlot]) -> Result<(), Refusal>
     ensures listed { Over (λ u. u) code (λ m r. (r ≡ Ok tt) × ListedTo m slots.old slots.new) result }
     ensures kept { result ≡ Err UnknownCode → slots.new ≡ slots.old }

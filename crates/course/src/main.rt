@@ -4,6 +4,7 @@
 mod single;
 mod stop;
 mod table;
+// Times are not printed yet: nothing calls this module.
 mod times;
 mod words;
 

@@ -41,6 +41,7 @@ pub fn spelled<F: FnOnce(&mut [u8]) -> Result<usize, Fault>>(spell: F) -> Result
 }
 
 /// A receiver that was offered these words, in order.
+// The loop for C offers a list; here the words come from an iterator, with one spoiled or left out.
 fn offered<I: Iterator<Item = u64> + Drop>(words: I) -> Result<Receiver<Cyclic>, Fault>
     requires can { I.can_next words }
     requires ends { IsFinite (I.remaining words) }

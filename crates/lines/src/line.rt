@@ -34,7 +34,7 @@ impl Line {
     }
 
     /// The line with the digits of a number at its end. Those above the last one go first.
-    // No clause of `fmt` says that it succeeds where there is room, so the digits are put here.
+    // No clause says that `write!` succeeds where there is room, so the digits are put here.
     fn digits(self, base: Base, number: u64) -> Line
         requires { length (self ++ text_of (base_number base) number) ≤ 58 }
         ensures { result ≡ self ++ text_of (base_number base) number }

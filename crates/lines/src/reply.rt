@@ -10,7 +10,7 @@ use codes::fault::{Cause, Fault, Layer};
 use link::receiver::Answer;
 
 /// The answer to a line.
-// Not `Answered(Answer)`: a reply is told by its line, and whoever writes one names no receiver.
+// Not `Answered(Answer)`: a reply is matched in one step, and two of its four kinds answer no word.
 #[derive(Clone, Copy, PartialEq, Eq, Debug)]
 pub enum Reply {
     /// The word settled its place.

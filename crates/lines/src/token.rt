@@ -5,7 +5,7 @@ ghost use Rattle.lines.specs.Token.{TokenWrites, AfterSpace, CutAtSpace};
 use crate::number::{Base, read_number};
 
 /// A part of a line, by what it is to be.
-// A name is a token too, though it is no number: every part of a line is one of these.
+// One enum and no function for each: what a part is to be is said where the line is taken apart, a name too.
 #[derive(Clone, Copy)]
 pub(crate) enum Token<'a> {
     /// A code's name.

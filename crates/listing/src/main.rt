@@ -6,11 +6,8 @@ mod terminal;
 use crate::terminal::Terminal;
 use codes::fault::Fault;
 use lines::reply::Reply;
-use listings::listing::Listing;
+use listings::listing::{Listing, ROOM};
 use std::io;
-
-/// Room for any reply.
-const ROOM: usize = 32;
 
 /// Answers each line of an open listing.
 fn converse(terminal: &mut Terminal, mut listing: Listing) -> io::Result<()> {

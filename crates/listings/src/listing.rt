@@ -22,8 +22,8 @@ pub struct Listing {
     receiver: Receiver<Choice>,
 }
 
-/// The longest reply takes 31 bytes.
-const ROOM: usize = 32;
+/// How many bytes a buffer has to have. The longest reply takes 31.
+pub const ROOM: usize = 32;
 
 impl Listing {
     /// A listing that has heard nothing, over the code that a heading names.

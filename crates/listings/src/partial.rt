@@ -5,7 +5,7 @@ ghost use Rattle.std.specs.Prelude.{◌≡◌, ◌≤◌, length};
 const ROOM: usize = 18;
 
 /// The front of a line, as far as it was read.
-// An `ArrayVec` is not `Copy`, and callers may copy the line. A model of what is `Copy` forgets nothing, so it would name the spare bytes too.
+// An `ArrayVec` is not `Copy`, and callers may copy the line. The model of a `Copy` type has to tell every field, so it would tell the spare bytes too.
 #[derive(Clone, Copy)]
 pub struct PartialLine {
     bytes: [u8; ROOM],

@@ -14,7 +14,7 @@ fn first_of(bytes: &[u8], kind: Kind) -> Result<Option<Record<'_>>, Fault>
 {
     let mut reader = Reader::new(bytes);
     while let Some(record) = reader.next()? {
-        // by number, since `Kind::Other` can hold the number of a named kind
+        // By number, since `Kind::Other` can hold the number of a named kind.
         if u16::from(record.kind) == u16::from(kind) {
             return Ok(Some(record));
         }

@@ -58,7 +58,7 @@ pub struct Comparison<C, D> {
 }
 
 /// Runs each list of calls on a new receiver of its own, and compares the reports.
-// Code and calls side by side, as `replay` takes them; a `Run` is for the call that takes four such pairs.
+// Code and calls side by side, as `replay` takes them; a `Run` is for `judge`, which takes two of them and two trips.
 pub fn compare<C: Code, D: Code>(
     one: C,
     calls: &[Call],

@@ -37,8 +37,8 @@ fn offer_all<C: Code>(
     Ok(())
 }
 
-// The parts of a `Trip`, side by side: a trip carries itself by this call.
 /// Sends a table, turns over the bits of the pattern in each word, offers the words in order to a new receiver, seals it and spells.
+// Its parameters are those of a `Trip`, side by side, as a program that carries one table has them.
 pub fn carry<C: Code + Drop>(
     code: C,
     table: &[u8],

@@ -56,7 +56,7 @@ impl<R: Print + Eprint + AllocGlobal> Survey<'_, R> {
         let codewords = self.size.few;
         let mut tally = Tally::default();
         for index in 0..codewords {
-            tally = each_class(subject, &table, plain.message_at(3 * u64::from(index)))?;
+            tally = each_class(subject, &table, plain.message_of_few(index))?;
             self.count(tally.words);
         }
         let refused = tally.refused;

@@ -70,7 +70,7 @@ impl<R: Print + Eprint> Survey<'_, R> {
         let plain = subject.plain;
         eprintln!(self.rt; "{plain}: patterns of one flip too many")?;
         for index in 0..self.size.few {
-            self.beyond_reach_of(subject, plain.message_at(3 * u64::from(index)))?;
+            self.beyond_reach_of(subject, plain.message_of_few(index))?;
         }
         Ok(())
     }

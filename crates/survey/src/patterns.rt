@@ -24,6 +24,7 @@ pub fn low_ones(count: u32) -> u64
 }
 
 /// Whether a word has no bit at this place or above.
+// Not the `fits_in` of the library, which is held to these answers.
 pub fn is_within(word: u64, length: u32) -> bool
     ensures { MatchBool result (word < 2 ^ length) (2 ^ length ≤ word) }
 {

@@ -1,4 +1,4 @@
-//! Codes by their numbers alone: answers that owe nothing to the library.
+//! Codes by their numbers alone: answers that owe nothing to the library's search.
 ghost use Rattle.std.specs.Prelude.{◌≡◌, ◌+◌, ◌^◌, ◌<◌, ◌≤◌, min};
 
 use crate::patterns::{Patterns, SEED, is_within, low_ones, mixed};
@@ -178,6 +178,11 @@ impl Plain {
             _ => mixed(SEED.wrapping_mul(index)),
         };
         chosen & low_ones(self.message_bits)
+    }
+
+    /// A message for each index of a few: 0, and then mixed ones.
+    pub fn message_of_few(&self, index: u32) -> u64 {
+        self.message_at(3 * u64::from(index))
     }
 
     /// The patterns of so many flips.

@@ -19,7 +19,7 @@ impl<R: Print> Survey<'_, R> {
         let expected = cause.number();
         let answered = answer.err().map(|fault| fault.cause);
         if answered != Some(cause) {
-            let number = answered.map_or(0, |cause| cause.number());
+            let number = answered.map_or(0, Cause::number);
             println!(self.rt; "{what}: answered {number}, not {expected}")?;
             bail!("a wrong refusal");
         }

@@ -42,10 +42,11 @@ impl<C: Code> Subject<C> {
 
     /// The codeword of a message, as the code and its numbers both say.
     pub fn encode(&self, message: u64) -> Result<u64, Wrong> {
-        match self.code.encode(message) {
-            Ok(codeword) if codeword == self.plain.codeword(message) => Ok(codeword),
-            _ => Err(self.wrong(message)),
-        }
+        self.code
+            .encode(message)
+            .ok()
+            .filter(|codeword| *codeword == self.plain.codeword(message))
+            .ok_or(self.wrong(message))
     }
 
     /// The pattern that the code takes from a word, or none where it refuses the word as beyond reach.
@@ -63,11 +64,7 @@ impl<C: Code> Subject<C> {
     fn judged(&self, word: u64, answer: Option<u64>, right: bool) -> Result<Option<u64>, Wrong>
         ensures { MatchResult result (λ given. (given ≡ answer) × (right ≡ true)) (λ _. right ≡ false) }
     {
-        if right {
-            Ok(answer)
-        } else {
-            Err(self.wrong(word))
-        }
+        right.then_some(answer).ok_or(self.wrong(word))
     }
 
     /// The answer to a word: this pattern, or a refusal where there is none.

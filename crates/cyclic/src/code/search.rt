@@ -38,6 +38,7 @@ impl Search<'_> {
         let most = code.generator.t.checked_sub(2)?;
         let rows = code.message_rows();
         let mut found = None;
+        // A label and no `find_map`: the first pair that is light enough ends both loops.
         'pairs: for (i, first) in rows.iter().enumerate() {
             let one = self.syndrome ^ first;
             for (j, second) in rows[i + 1..].iter().enumerate() {
@@ -58,7 +59,7 @@ impl Search<'_> {
         if self.syndrome.count_ones() <= self.code.generator.t {
             return Some(self.syndrome);
         }
-        // Tried with `or_else`: its closure holds a `Search`, and of a call in it nothing is known to the proof.
+        // Tried with `or_else`: the proof knows nothing of a call inside its closure, which holds the `Search`.
         if let Some(pattern) = self.one_message_flip() {
             return Some(pattern);
         }

@@ -100,20 +100,20 @@ const BAD_HEADINGS: [&str; 12] = [
 fn says(listing: &mut Listing, line: &[u8], answer: &str) -> Result<(), Fail> {
     let mut buffer = [b'#'; 40];
     let count = listing.line(line, &mut buffer)?;
-    check_eq(count >= 1 && count <= 40, true)?;
-    check_eq(&buffer[0..count - 1] == answer.as_bytes(), true)?;
-    check_eq(buffer[count - 1] == b'\n', true)?;
+    check_eq((1..=40).contains(&count), true)?;
+    check_eq(&buffer[0..count - 1], answer.as_bytes())?;
+    check_eq(buffer[count - 1], b'\n')?;
     // a check for each byte
-    for byte in buffer[count..].iter() {
-        check_eq(*byte == b'#', true)?;
+    for byte in &buffer[count..] {
+        check_eq(*byte, b'#')?;
     }
     Ok(())
 }
 
 fn dialogue(heading: &str, rows: &[Row]) -> Result<(), Fail> {
     let mut listing = Listing::open(heading.as_bytes())?;
-    for row in rows.iter() {
-        says(&mut listing, row.0.as_bytes(), row.1)?;
+    for (line, answer) in rows {
+        says(&mut listing, line.as_bytes(), answer)?;
     }
     Ok(())
 }
@@ -131,7 +131,7 @@ fn codes_and_layers(rt: HostRuntime) -> Result<(), Fail> {
 #[test]
 fn bad_lines(rt: HostRuntime) -> Result<(), Fail> {
     let mut listing = Listing::open(b"G23")?;
-    for line in BAD.iter() {
+    for line in BAD {
         says(&mut listing, line.as_bytes(), "NO 13")?;
     }
     says(&mut listing, b"W \xff", "NO 13")?;
@@ -140,7 +140,7 @@ fn bad_lines(rt: HostRuntime) -> Result<(), Fail> {
 
 #[test]
 fn bad_headings(rt: HostRuntime) {
-    for line in BAD_HEADINGS.iter() {
+    for line in BAD_HEADINGS {
         let refused = Listing::open(line.as_bytes()).err();
         assert_eq!(rt; refused, Some(at(Cause::BadLine, 0)));
     }
