@@ -29,7 +29,7 @@ impl Slot {
     }
 
     /// The number of the refusal, or 0 where there is none.
-    // A slot is no conversion of its number, so this is a method and no `From`.
+    // A method and no `From`, like the number of a cause.
     pub fn number(&self) -> u8
         ensures { result ≡ verdict_number self.now.verdict }
     {
