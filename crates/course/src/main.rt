@@ -4,7 +4,6 @@
 mod single;
 mod stop;
 mod table;
-// Times are not printed yet: nothing calls this module.
 mod times;
 mod words;
 

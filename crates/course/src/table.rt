@@ -1,6 +1,7 @@
 //! The table, carried in Q41 words.
 use crate::single::{FIVE, FOUR};
 use crate::stop::{Stop, told};
+use crate::times::times;
 use crate::words::{ROOM, SPOILED, TABLE, WORDS, Words, spelled};
 use cyclic::Cyclic;
 use cyclic::name::Name;
@@ -165,5 +166,6 @@ pub fn every_case(rt: &(impl Print + Drop)) -> Result<(), Stop> {
     };
     told(rt, cases.hotel())?;
     told(rt, cases.office())?;
+    told(rt, times(rt, &cases.words))?;
     cases.both()
 }

@@ -1,6 +1,6 @@
 //! What the cars read: the times of some floors, from the table that was sent and from the same table with a word dropped.
 use crate::stop::Stop;
-use crate::words::{Spelled, WORDS, Words, spelled};
+use crate::words::{SPOILED, Spelled, WORDS, Words, spelled};
 use codes::fault::Fault;
 use cyclic::Cyclic;
 use cyclic::name::Name;
@@ -60,11 +60,11 @@ fn show_floor(rt: &impl Print, floor: u32, whole: &[u8], shifted: &[u8]) -> io::
     println!(rt; "  {floor:>5}{travel}{travel_dropped}{door}{door_dropped}")
 }
 
-pub fn times(rt: &impl Print) -> Result<(), Stop> {
-    let words = Words::sent()?;
-    let whole = whole_table(&words)?;
-    let shifted = shifted_table(&words)?;
-    println!(rt; "times in seconds, each beside what the car would read with word 17 dropped")?;
+/// The times of some floors, read from both tables.
+pub fn times(rt: &impl Print, words: &Words) -> Result<(), Stop> {
+    let whole = whole_table(words)?;
+    let shifted = shifted_table(words)?;
+    println!(rt; "times in seconds, each beside what the car would read with word {SPOILED} dropped")?;
     println!(rt; "  floor   travel  dropped     door  dropped")?;
     for floor in FLOORS {
         show_floor(rt, floor, whole.as_slice(), shifted.as_slice())?;
