@@ -30,6 +30,7 @@ impl From<Fault> for Refusal {
 
 impl Refusal {
     /// The number by which C knows the refusal.
+    // A method and no `From`, like the number of a cause.
     fn number(self) -> u32
         ensures { result ≡ refusal_number self }
     {

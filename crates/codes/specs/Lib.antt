@@ -1,4 +1,5 @@
 pub mod Bounded
+pub mod Sums
 pub mod Fault
 pub mod Meaning
 pub mod Interface

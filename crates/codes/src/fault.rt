@@ -37,7 +37,7 @@ pub enum Cause {
 
 impl Cause {
     /// The number of the cause.
-    // A method and no `From`: `u8::from(cause)` would not say which number.
+    // A method and no `From`: `cause.number()` says what is asked, and nothing generic converts a cause.
     pub fn number(self) -> u8
         ensures { result ≡ number self }
     {

@@ -43,7 +43,7 @@ pub trait Code {
 }
 
 /// Whether a number has at most so many bits.
-// Who asks refuses for a cause of its own, so this is a test and no `Result`.
+// A test and no `Result` with the cause as a parameter: three of its nine callers refuse nothing by it.
 #[tactic(auto, using(crate::proofs::Answering::widest, crate::proofs::Answering::width_by_shift))]
 pub fn fits_in(number: u64, bits: u32) -> bool
     ensures { MatchBool result (number < 2 ^ bits) (2 ^ bits ≤ number) }

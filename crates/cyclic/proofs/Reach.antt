@@ -10,7 +10,8 @@ use Rattle.codes.specs.Meaning.{Beyond, distance}
 use Rattle.cyclic.specs.Generator.{Numbers, code_of, parity_bits, syndrome, Codeword}
 use Rattle.cyclic.specs.Code.{correction}
 use Rattle.cyclic.specs.Search.{Pattern}
-use Rattle.cyclic.specs.Linear.{remainder_small, remainder_xor, remainder_shift, remainder_cycle, remainder_multiple, multiple_remainder, xor_cancel}
+use Rattle.cyclic.specs.Linear.{remainder_small, remainder_xor, remainder_shift, remainder_cycle, remainder_multiple, multiple_remainder}
+use Rattle.codes.specs.Sums.{xor_cancel}
 use Rattle.cyclic.specs.Rotation.{ones_parts, rotate_lt, rotate_ones, rotate_remainder}
 use Rattle.cyclic.specs.Distance.{rotated_message}
 use Rattle.cyclic.specs.Codewords.{codeword_only, codeword_every}

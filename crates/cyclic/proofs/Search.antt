@@ -6,7 +6,8 @@ use lib.Bits.{bit_xor, xor_lt, xor_assoc, xor_self, xor_comm, xor_zero_r}
 use lib.Count.{ones}
 use Rattle.cyclic.specs.Generator.{Numbers, parity_bits, syndrome}
 use Rattle.cyclic.specs.Search.{Pattern, MessageTable, row_of, Singles, Pairs}
-use Rattle.cyclic.specs.Linear.{remainder_zero, remainder_small, remainder_xor, xor_shl, xor_cancel}
+use Rattle.cyclic.specs.Linear.{remainder_zero, remainder_small, remainder_xor, xor_shl}
+use Rattle.codes.specs.Sums.{xor_cancel}
 use Rattle.codes.proofs.Distance.{ones_xor_le}
 use Rattle.cyclic.specs.Weight.{ones_pow, ones_none, one_bit, two_bits}
 use Rattle.cyclic.specs.Rotation.{ones_parts}

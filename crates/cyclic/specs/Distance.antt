@@ -6,7 +6,8 @@ use Rattle.std.proofs.lemmas.Nat.{mod-pow-add, xor_lt, ones_cat, ones-le}
 use Rattle.std.specs.Int.Bits.{xor_shifted, xor_zero_r}
 use Rattle.std.proofs.lemmas.Bool.{cases_lt}
 use Rattle.cyclic.specs.Polynomial.{remainder, rotate, Multiple}
-use Rattle.cyclic.specs.Linear.{remainder_xor, remainder_zero, remainder_small, remainder_shift, xor_cancel, multiple_remainder}
+use Rattle.cyclic.specs.Linear.{remainder_xor, remainder_zero, remainder_small, remainder_shift, multiple_remainder}
+use Rattle.codes.specs.Sums.{xor_cancel}
 use Rattle.cyclic.specs.Weight.{ones_zero, ones_none}
 use Rattle.cyclic.specs.Rotation.{ones_parts, rotate_lt, rotate_ones, rotate_high, rotate_remainder}
 use Rattle.cyclic.specs.Span.{Heavy}

@@ -8,6 +8,7 @@ use Rattle.std.proofs.Math.Arith.{half_le, bin_ind, digits_div, digits_mod, lt-o
 use Rattle.std.proofs.Math.Pow.{pow_pos}
 use Rattle.std.specs.Int.Bits.{xor_shr, xor_assoc, xor_self, xor_zero_r, xor_shifted}
 use Rattle.std.proofs.lemmas.Nat.{xor_mod, xor_comm, xor_block, xor_lt}
+use Rattle.codes.specs.Sums.{xor_cancel}
 use Rattle.cyclic.specs.Polynomial.{horner_in, horner, scale, product, times_x, remainder, Multiple}
 
 two_pos : zero < 2
@@ -36,9 +37,6 @@ pub xor_swap : (a b c d : ℕ) → bit_xor (bit_xor a b) (bit_xor c d) ≡ bit_x
 xor_swap a b c d =
     xor_assoc a b (bit_xor c d) ∙ ap (bit_xor a) (sym (xor_assoc b c d) ∙ ap (λ (x : ℕ). bit_xor x d) (xor_comm b c) ∙ xor_assoc c b d)
     ∙ sym (xor_assoc a c (bit_xor b d))
-
-pub xor_cancel : (a b : ℕ) → bit_xor a (bit_xor a b) ≡ b
-xor_cancel a b = sym (xor_assoc a a b) ∙ ap (λ (x : ℕ). bit_xor x b) (xor_self a)
 
 pub xor_shl : (a b k : ℕ) → bit_xor a b * 2 ^ k ≡ bit_xor (a * 2 ^ k) (b * 2 ^ k)
 xor_shl a b k =

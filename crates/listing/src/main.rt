@@ -16,6 +16,7 @@ fn converse(terminal: &mut Terminal, mut listing: Listing) -> io::Result<()> {
         let Some(line) = terminal.line()? else {
             break;
         };
+        // The library has no heap: it writes into a buffer that is lent, and answers how many bytes.
         let mut buffer = [0; ROOM];
         let count = listing.line(line.line(), &mut buffer).unwrap();
         terminal.reply(&buffer[..count])?;

@@ -1,6 +1,6 @@
 -- Words that are offered in order, and a table that is carried.
 use Rattle.std.proofs.Common.{◌≡◌, ℕ, zero, suc, ◌+◌, ◌-◌, ◌*◌, ◌^◌, ◌<◌, ◌≤◌, true, ltb, List, [], ◌∷◌, ◌++◌, map, length, get_or, take, drop, Ok, Err, Result, sym, refl, ap, ◌∙◌, subst, inl, inr, ⊎_elim, suc-le-suc, zero-lt-suc, arith, pow_pos}
-use lib.Bits.{bit_xor, xor_lt, xor_assoc, xor_comm, xor_self}
+use lib.Bits.{bit_xor, xor_lt, xor_comm}
 use lib.Count.{ones}
 use lib.Seq.{take-append_seam}
 use Rattle.std.proofs.lemmas.Nat.{le-div}
@@ -9,6 +9,7 @@ use Rattle.std.proofs.lemmas.Bool.{cases_lt, cond-true, cond-false, lt-ltb, le-l
 use Rattle.codes.specs.declared.fault.Fault.{Fault}
 use Rattle.codes.specs.Fault.{Refused}
 use Rattle.codes.specs.Meaning.{Meaning, Lawful, Carries, Within, message}
+use Rattle.codes.specs.Sums.{xor_cancel}
 use Rattle.codes.proofs.Reach.{one_within, within_beyond}
 use Rattle.link.specs.declared.receiver.Answer.{Answer}
 use Rattle.link.specs.declared.report.Place.{Place}
@@ -86,12 +87,9 @@ front_words m table before after c sent =
       each = λ i l. subst (λ (x : ℕ). Carries m (message_at m.k table i) x) (sym (get_or-take c after i 0 (omega (arith, sent.1.0)))) (words.each i l);
     }
 
-xor_back : (a b : ℕ) → bit_xor a (bit_xor a b) ≡ b
-xor_back a b = sym (xor_assoc a a b) ∙ ap (λ (x : ℕ). bit_xor x b) (xor_self a)
-
 -- what is added to a word below 2 ^ n and leaves it there is itself below
 below_added : (n v e : ℕ) → v < 2 ^ n → bit_xor v e < 2 ^ n → e < 2 ^ n
-below_added n v e h l = subst (λ (x : ℕ). x < 2 ^ n) (xor_back v e) (xor_lt n v (bit_xor v e) h l)
+below_added n v e h l = subst (λ (x : ℕ). x < 2 ^ n) (xor_cancel v e) (xor_lt n v (bit_xor v e) h l)
 
 first_long_is : (b : ℕ) (es : List ℕ) (i : ℕ) → 0 < b → ((j : ℕ) → j < i → get_or es j 0 < b) → b ≤ get_or es i 0 → first_long b es ≡ i
 first_long_is b [] i pos below long = absurd (omega (arith, get_or_past {X = ℕ} [] i 0 (omega arith)))
@@ -170,10 +168,10 @@ module _ {m : Meaning} (law : Lawful m) (table patterns buffer : List ℕ) (serv
     -- a word with at most t bits turned over settles its place with its message
     settled_by : (v e a f : ℕ) (x : Place) → ones e ≤ m.t → Carries m a v → Demands m (bit_xor v e) x f → x ≡ Settled a
     settled_by v e a f (Settled b) light c d =
-        let near : Within m (bit_xor v e) v = (c.0, subst (λ (y : ℕ). ones y ≤ m.t) (sym (xor_comm (bit_xor v e) v ∙ xor_back v e)) light) in
+        let near : Within m (bit_xor v e) v = (c.0, subst (λ (y : ℕ). ones y ≤ m.t) (sym (xor_comm (bit_xor v e) v ∙ xor_cancel v e)) light) in
         ap Settled (d.2 ∙ ap (message m) (one_within law (bit_xor v e) d.0 v d.1 near) ∙ c.1)
     settled_by v e a f Gap light c d =
-        let near : Within m (bit_xor v e) v = (c.0, subst (λ (y : ℕ). ones y ≤ m.t) (sym (xor_comm (bit_xor v e) v ∙ xor_back v e)) light) in
+        let near : Within m (bit_xor v e) v = (c.0, subst (λ (y : ℕ). ones y ≤ m.t) (sym (xor_comm (bit_xor v e) v ∙ xor_cancel v e)) light) in
         absurd (within_beyond law (bit_xor v e) v near d.0)
 
     holds : Sendable m table → Light m table patterns → Holds m.k ps table

@@ -58,7 +58,7 @@ pub struct Comparison<C, D> {
 }
 
 /// Runs each list of calls on a new receiver of its own, and compares the reports.
-// Code and calls side by side, as `replay` takes them; a `Run` is for `judge`, which takes two of them and two trips.
+// Code and calls side by side, as `replay` takes them: a caller with both at hand would make a `Run` for this one call.
 pub fn compare<C: Code, D: Code>(
     one: C,
     calls: &[Call],

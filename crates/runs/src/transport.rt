@@ -20,7 +20,7 @@ fn pattern_at(patterns: &[u64], i: usize) -> u64
 }
 
 /// Offers the words in order, each with its bits turned over, and stops at the first that is refused.
-// No `zip`: where the patterns end, the words go on and nothing is turned over.
+// No `zip`: where the patterns end, the words go on, and zeros chained behind them without end are no plainer than `pattern_at`.
 #[tactic(auto, using(crate::proofs::Carrying::arriving_none))]
 fn offer_all<C: Code>(
     receiver: &mut Receiver<C>,

@@ -24,6 +24,7 @@ fn table_of(heap: Global, plain: &Plain) -> Result<Table, AllocError> {
 }
 
 /// One word of every class: the remainder itself, added to the codeword of a message.
+// A subject and a message stand side by side here and twice in `flips`: a struct of both would be made for one call each.
 fn each_class<C: Code>(subject: &Subject<C>, table: &Table, message: u64) -> Result<Tally, Wrong> {
     let codeword = subject.encode(message)?;
     Tally::of(

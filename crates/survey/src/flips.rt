@@ -35,6 +35,7 @@ impl<R: Print + Eprint> Survey<'_, R> {
         eprintln!(self.rt; "{plain}: patterns of at most {reach} flips")?;
         let codewords = plain.codewords(self.size.codewords);
         let plural = if codewords == 1 { "" } else { "s" };
+        // As in `classes`: two loops of three lines, with another step and another text.
         let mut tally = Tally::default();
         for index in 0..codewords {
             tally = around(subject, plain.message_at(index))?;

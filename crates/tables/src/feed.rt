@@ -31,6 +31,7 @@ impl Symbol for u64 {
 pub(crate) struct Feed<'a, S: Symbol> {
     symbols: Iter<'a, S>,
     width: u32,
+    // Bits in hand with their number: no collection holds bits.
     held: u64,
     bits: u32,
 }

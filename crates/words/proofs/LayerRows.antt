@@ -8,7 +8,7 @@ use Rattle.codes.specs.declared.fault.Layer.TheVariants.{Word}
 use Rattle.codes.specs.Fault.{fault}
 use Rattle.codes.specs.Interface.{Corrects}
 use Rattle.codes.specs.Meaning.{Meaning, Lawful, Beyond, distance}
-use Rattle.cyclic.specs.Linear.{xor_cancel}
+use Rattle.codes.specs.Sums.{xor_cancel}
 use Rattle.layers.specs.Parity.{with_parity, append_parity}
 use Rattle.layers.specs.Shortened.{shorten}
 use Rattle.layers.specs.ParityLaws.{parity_appended, appended_message, parity_only}

@@ -38,7 +38,7 @@ impl Search<'_> {
         let most = code.generator.t.checked_sub(2)?;
         let rows = code.message_rows();
         let mut found = None;
-        // A label and no `find_map`: the first pair that is light enough ends both loops.
+        // A rule of this project: the search over pairs is left from inside by a label.
         'pairs: for (i, first) in rows.iter().enumerate() {
             let one = self.syndrome ^ first;
             for (j, second) in rows[i + 1..].iter().enumerate() {
