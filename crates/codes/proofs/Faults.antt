@@ -8,7 +8,7 @@ use Rattle.codes.specs.declared.fault.Fault.{Fault}
 use Rattle.codes.specs.Fault.{number, letter, fault, Test, Reports, Passed, Outcome, Transition}
 use Rattle.codes.specs.Meaning.{One}
 
-numbers_distinct : (x y : Cause) → number x ≡ number y → x ≡ y
+pub numbers_distinct : (x y : Cause) → number x ≡ number y → x ≡ y
 numbers_distinct OutOfService OutOfService h = refl
 numbers_distinct WordTooLong WordTooLong h = refl
 numbers_distinct MessageTooLong MessageTooLong h = refl
