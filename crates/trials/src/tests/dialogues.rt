@@ -35,11 +35,16 @@ const Q31: [Row; 9] = [
     ("W 7fffffff", "OK 3 ffff 0"),
 ];
 
-const Q41: [Row; 4] = [
+const Q41: [Row; 9] = [
     ("W 1b4e54", "OK 0 1 f"),
     ("W 700001", "OK 1 0 700001"),
     ("W 1f", "OK 2 112 11220000"),
     ("W 20000000000", "NO 2"),
+    ("W 3f", "GAP 3"),
+    ("R 3 ff", "GAP 3"),
+    ("R 3 1b4e5b", "OK 3 1 0"),
+    ("R 3 0", "NO 6"),
+    ("W 1ffffffffff", "OK 4 1fffff 0"),
 ];
 
 const G23_PARITY: [Row; 5] = [
@@ -50,12 +55,32 @@ const G23_PARITY: [Row; 5] = [
     ("W 1000000", "NO 2"),
 ];
 
-const Q31_PARITY: [Row; 2] = [("W 1c613", "OK 0 1 0"), ("W 100000000", "NO 2")];
+const Q31_PARITY: [Row; 9] = [
+    ("W 1c613", "OK 0 1 0"),
+    ("W 100000000", "NO 2"),
+    ("C", "CLEAR"),
+    ("W f", "GAP 0"),
+    ("W 1c612", "OK 1 1 1"),
+    ("R 0 1c613", "OK 0 1 0"),
+    ("R 0 0", "NO 6"),
+    ("W 7", "OK 2 0 7"),
+    ("W ffffffff", "OK 3 ffff 0"),
+];
 
-const Q41_PARITY: [Row; 2] = [("W 369cb7", "OK 0 1 0"), ("W 40000000000", "NO 2")];
+const Q41_PARITY: [Row; 9] = [
+    ("W 369cb7", "OK 0 1 0"),
+    ("W 40000000000", "NO 2"),
+    ("C", "CLEAR"),
+    ("W 3e", "GAP 0"),
+    ("W 369cb6", "OK 1 1 1"),
+    ("R 0 369cb7", "OK 0 1 0"),
+    ("R 0 0", "NO 6"),
+    ("W 1e", "OK 2 0 1e"),
+    ("W 3ffffffffff", "OK 3 1fffff 0"),
+];
 
 /// Lines that stand for no command.
-const BAD: [&str; 33] = [
+const BAD: [&str; 40] = [
     "",
     " ",
     "W",
@@ -89,11 +114,19 @@ const BAD: [&str; 33] = [
     "R 1 0 ",
     "R 1 G",
     "\0",
+    "R 1 123456789012",
+    "R 1 0 0",
+    "R -1 0",
+    "R 1\t0",
+    "W 1\n",
+    "C\n",
+    "W 1\0",
 ];
 
 /// First lines that name no code.
-const BAD_HEADINGS: [&str; 12] = [
+const BAD_HEADINGS: [&str; 16] = [
     "", "G2", "G233", "G23 ", " G23", "g23", "G23+", "G23+p", "G23+P+P", "+P", "Q42", "G23\r",
+    "G23 +P", "G23+P\r", "G23-P", "G23\n",
 ];
 
 /// The answer to a line, with its line feed, and the rest of the buffer as it was.
@@ -156,10 +189,12 @@ fn hears(listing: &mut Listing, line: &[u8]) -> Result<(), Fail> {
 #[test]
 fn full_listing(rt: HostRuntime) -> Result<(), Fail> {
     let mut listing = Listing::open(b"G23")?;
-    for _ in 0..256 {
+    for _ in 0..255 {
         hears(&mut listing, b"W ae3")?;
     }
+    says(&mut listing, b"W ae3", "OK 255 1 0")?;
     says(&mut listing, b"W ae3", "NO 5")?;
+    says(&mut listing, b"R 256 0", "NO 6")?;
     says(&mut listing, b"C", "CLEAR")?;
     says(&mut listing, b"W ae3", "OK 0 1 0")
 }
