@@ -1,5 +1,6 @@
 mod Framing
 mod Meanings
+mod InTurn
 mod Walking
 mod Entries
 mod EntryLaw

@@ -1,7 +1,7 @@
 //! Reads the records of a table, one after the other.
 ghost use Rattle.std.specs.Prelude.{◌≡◌, ◌≤◌, length};
 ghost use Rattle.records.specs.Layout.{ReadBack};
-ghost use Rattle.records.specs.Reader.{ReadOn};
+ghost use Rattle.records.specs.Reader.{ReadOn, Reading};
 
 use crate::layout::Record;
 use codes::fault::{Cause, Fault};
@@ -25,11 +25,12 @@ impl<'a> Reader<'a> {
     }
 
     /// The next record, or `None` behind the last. A faulty one is refused, and the reader stays before it.
-    #[tactic(auto, using(crate::proofs::Meanings::reads_back, crate::proofs::Meanings::moved))]
+    #[tactic(auto, using(crate::proofs::Meanings::reads_back, crate::proofs::Meanings::moved, crate::proofs::InTurn::reading))]
     pub fn next(&mut self) -> Result<Option<Record<'a>>, Fault>
         ensures read { ReadOn self.old.bytes.now self.old.at result self.new.at }
         ensures same { self.new.bytes ≡ self.old.bytes }
         ensures law { ReadBack }
+        ensures reading { Reading }
     {
         let place = self.at;
         let left = &self.bytes[place..];

@@ -10,15 +10,17 @@ const TABLE: [u8; 19] = [1, 0, 9, 0, 7, 4, 0, 1, 0, 41, 0, 63, 0, 2, 0, 2, 0, 55
 /// What a lookup answers: a time, that it is absent, or the place of the record that it refuses.
 type Time = Result<Option<u16>, usize>;
 
-/// The first `size` bytes of the table, with one byte replaced: how many records are read, where the reader is refused,
-/// the travel time to floor 1, and the door time of floor 0.
+/// The first `size` bytes of the table, with one byte replaced: how many records are read, the sum of the bytes of their
+/// payloads, where the reader is refused, the travel times to floors 0 and 1, and the door time of floor 0.
 #[derive(Clone, Copy)]
 struct Row {
     size: usize,
     at: usize,
     byte: u8,
     records: usize,
+    sum: u32,
     fault: Option<usize>,
+    lowest: Time,
     travel: Time,
     door: Time,
 }
@@ -30,7 +32,9 @@ const ROWS: [Row; 44] = [
         at: 0,
         byte: 1,
         records: 0,
+        sum: 0,
         fault: None,
+        lowest: Ok(None),
         travel: Ok(None),
         door: Ok(None),
     },
@@ -39,7 +43,9 @@ const ROWS: [Row; 44] = [
         at: 0,
         byte: 1,
         records: 0,
+        sum: 0,
         fault: Some(0),
+        lowest: Err(0),
         travel: Err(0),
         door: Err(0),
     },
@@ -48,7 +54,9 @@ const ROWS: [Row; 44] = [
         at: 0,
         byte: 1,
         records: 0,
+        sum: 0,
         fault: Some(0),
+        lowest: Err(0),
         travel: Err(0),
         door: Err(0),
     },
@@ -57,7 +65,9 @@ const ROWS: [Row; 44] = [
         at: 0,
         byte: 1,
         records: 0,
+        sum: 0,
         fault: Some(0),
+        lowest: Err(0),
         travel: Err(0),
         door: Err(0),
     },
@@ -66,7 +76,9 @@ const ROWS: [Row; 44] = [
         at: 0,
         byte: 1,
         records: 0,
+        sum: 0,
         fault: Some(0),
+        lowest: Err(0),
         travel: Err(0),
         door: Err(0),
     },
@@ -75,7 +87,9 @@ const ROWS: [Row; 44] = [
         at: 0,
         byte: 1,
         records: 1,
+        sum: 7,
         fault: None,
+        lowest: Ok(None),
         travel: Ok(None),
         door: Ok(None),
     },
@@ -84,7 +98,9 @@ const ROWS: [Row; 44] = [
         at: 0,
         byte: 1,
         records: 1,
+        sum: 7,
         fault: Some(5),
+        lowest: Err(5),
         travel: Err(5),
         door: Err(5),
     },
@@ -93,7 +109,9 @@ const ROWS: [Row; 44] = [
         at: 0,
         byte: 1,
         records: 1,
+        sum: 7,
         fault: Some(5),
+        lowest: Err(5),
         travel: Err(5),
         door: Err(5),
     },
@@ -102,7 +120,9 @@ const ROWS: [Row; 44] = [
         at: 0,
         byte: 1,
         records: 1,
+        sum: 7,
         fault: Some(5),
+        lowest: Err(5),
         travel: Err(5),
         door: Err(5),
     },
@@ -111,7 +131,9 @@ const ROWS: [Row; 44] = [
         at: 0,
         byte: 1,
         records: 1,
+        sum: 7,
         fault: Some(5),
+        lowest: Err(5),
         travel: Err(5),
         door: Err(5),
     },
@@ -120,7 +142,9 @@ const ROWS: [Row; 44] = [
         at: 0,
         byte: 1,
         records: 1,
+        sum: 7,
         fault: Some(5),
+        lowest: Err(5),
         travel: Err(5),
         door: Err(5),
     },
@@ -129,7 +153,9 @@ const ROWS: [Row; 44] = [
         at: 0,
         byte: 1,
         records: 1,
+        sum: 7,
         fault: Some(5),
+        lowest: Err(5),
         travel: Err(5),
         door: Err(5),
     },
@@ -138,7 +164,9 @@ const ROWS: [Row; 44] = [
         at: 0,
         byte: 1,
         records: 1,
+        sum: 7,
         fault: Some(5),
+        lowest: Err(5),
         travel: Err(5),
         door: Err(5),
     },
@@ -147,7 +175,9 @@ const ROWS: [Row; 44] = [
         at: 0,
         byte: 1,
         records: 2,
+        sum: 111,
         fault: None,
+        lowest: Ok(Some(41)),
         travel: Ok(Some(63)),
         door: Ok(None),
     },
@@ -156,7 +186,9 @@ const ROWS: [Row; 44] = [
         at: 0,
         byte: 1,
         records: 2,
+        sum: 111,
         fault: Some(13),
+        lowest: Ok(Some(41)),
         travel: Ok(Some(63)),
         door: Err(13),
     },
@@ -165,7 +197,9 @@ const ROWS: [Row; 44] = [
         at: 0,
         byte: 1,
         records: 2,
+        sum: 111,
         fault: Some(13),
+        lowest: Ok(Some(41)),
         travel: Ok(Some(63)),
         door: Err(13),
     },
@@ -174,7 +208,9 @@ const ROWS: [Row; 44] = [
         at: 0,
         byte: 1,
         records: 2,
+        sum: 111,
         fault: Some(13),
+        lowest: Ok(Some(41)),
         travel: Ok(Some(63)),
         door: Err(13),
     },
@@ -183,7 +219,9 @@ const ROWS: [Row; 44] = [
         at: 0,
         byte: 1,
         records: 2,
+        sum: 111,
         fault: Some(13),
+        lowest: Ok(Some(41)),
         travel: Ok(Some(63)),
         door: Err(13),
     },
@@ -192,7 +230,9 @@ const ROWS: [Row; 44] = [
         at: 0,
         byte: 1,
         records: 2,
+        sum: 111,
         fault: Some(13),
+        lowest: Ok(Some(41)),
         travel: Ok(Some(63)),
         door: Err(13),
     },
@@ -201,7 +241,9 @@ const ROWS: [Row; 44] = [
         at: 0,
         byte: 1,
         records: 3,
+        sum: 166,
         fault: None,
+        lowest: Ok(Some(41)),
         travel: Ok(Some(63)),
         door: Ok(Some(55)),
     },
@@ -211,7 +253,9 @@ const ROWS: [Row; 44] = [
         at: 0,
         byte: 0,
         records: 1,
+        sum: 0,
         fault: Some(4),
+        lowest: Err(4),
         travel: Err(4),
         door: Err(4),
     },
@@ -220,7 +264,9 @@ const ROWS: [Row; 44] = [
         at: 1,
         byte: 1,
         records: 0,
+        sum: 0,
         fault: Some(0),
+        lowest: Err(0),
         travel: Err(0),
         door: Err(0),
     },
@@ -229,7 +275,9 @@ const ROWS: [Row; 44] = [
         at: 2,
         byte: 1,
         records: 0,
+        sum: 0,
         fault: Some(0),
+        lowest: Err(0),
         travel: Err(0),
         door: Err(0),
     },
@@ -238,7 +286,9 @@ const ROWS: [Row; 44] = [
         at: 2,
         byte: 2,
         records: 0,
+        sum: 0,
         fault: Some(0),
+        lowest: Err(0),
         travel: Err(0),
         door: Err(0),
     },
@@ -247,7 +297,9 @@ const ROWS: [Row; 44] = [
         at: 3,
         byte: 1,
         records: 3,
+        sum: 166,
         fault: None,
+        lowest: Ok(Some(41)),
         travel: Ok(Some(63)),
         door: Ok(Some(55)),
     },
@@ -256,7 +308,9 @@ const ROWS: [Row; 44] = [
         at: 4,
         byte: 8,
         records: 3,
+        sum: 167,
         fault: None,
+        lowest: Ok(Some(41)),
         travel: Ok(Some(63)),
         door: Ok(Some(55)),
     },
@@ -266,7 +320,9 @@ const ROWS: [Row; 44] = [
         at: 5,
         byte: 2,
         records: 2,
+        sum: 48,
         fault: Some(11),
+        lowest: Ok(Some(41)),
         travel: Ok(None),
         door: Err(11),
     },
@@ -275,7 +331,9 @@ const ROWS: [Row; 44] = [
         at: 5,
         byte: 3,
         records: 1,
+        sum: 7,
         fault: Some(5),
+        lowest: Err(5),
         travel: Err(5),
         door: Err(5),
     },
@@ -284,7 +342,9 @@ const ROWS: [Row; 44] = [
         at: 6,
         byte: 1,
         records: 1,
+        sum: 7,
         fault: Some(5),
+        lowest: Err(5),
         travel: Err(5),
         door: Err(5),
     },
@@ -293,7 +353,9 @@ const ROWS: [Row; 44] = [
         at: 7,
         byte: 2,
         records: 3,
+        sum: 166,
         fault: None,
+        lowest: Ok(None),
         travel: Ok(None),
         door: Ok(Some(41)),
     },
@@ -302,7 +364,9 @@ const ROWS: [Row; 44] = [
         at: 7,
         byte: 3,
         records: 3,
+        sum: 166,
         fault: None,
+        lowest: Ok(None),
         travel: Ok(None),
         door: Ok(Some(55)),
     },
@@ -311,7 +375,9 @@ const ROWS: [Row; 44] = [
         at: 8,
         byte: 1,
         records: 3,
+        sum: 166,
         fault: None,
+        lowest: Ok(None),
         travel: Ok(None),
         door: Ok(Some(55)),
     },
@@ -320,7 +386,9 @@ const ROWS: [Row; 44] = [
         at: 9,
         byte: 42,
         records: 3,
+        sum: 167,
         fault: None,
+        lowest: Ok(Some(42)),
         travel: Ok(Some(63)),
         door: Ok(Some(55)),
     },
@@ -329,7 +397,9 @@ const ROWS: [Row; 44] = [
         at: 10,
         byte: 1,
         records: 3,
+        sum: 167,
         fault: None,
+        lowest: Ok(Some(297)),
         travel: Ok(Some(63)),
         door: Ok(Some(55)),
     },
@@ -338,7 +408,9 @@ const ROWS: [Row; 44] = [
         at: 11,
         byte: 64,
         records: 3,
+        sum: 167,
         fault: None,
+        lowest: Ok(Some(41)),
         travel: Ok(Some(64)),
         door: Ok(Some(55)),
     },
@@ -347,7 +419,9 @@ const ROWS: [Row; 44] = [
         at: 12,
         byte: 1,
         records: 3,
+        sum: 167,
         fault: None,
+        lowest: Ok(Some(41)),
         travel: Ok(Some(319)),
         door: Ok(Some(55)),
     },
@@ -357,7 +431,9 @@ const ROWS: [Row; 44] = [
         at: 13,
         byte: 0,
         records: 3,
+        sum: 111,
         fault: Some(17),
+        lowest: Ok(Some(41)),
         travel: Ok(Some(63)),
         door: Ok(None),
     },
@@ -366,7 +442,9 @@ const ROWS: [Row; 44] = [
         at: 13,
         byte: 1,
         records: 2,
+        sum: 111,
         fault: Some(13),
+        lowest: Ok(Some(41)),
         travel: Ok(Some(63)),
         door: Err(13),
     },
@@ -375,7 +453,9 @@ const ROWS: [Row; 44] = [
         at: 13,
         byte: 3,
         records: 2,
+        sum: 111,
         fault: Some(13),
+        lowest: Ok(Some(41)),
         travel: Ok(Some(63)),
         door: Err(13),
     },
@@ -384,7 +464,9 @@ const ROWS: [Row; 44] = [
         at: 14,
         byte: 1,
         records: 2,
+        sum: 111,
         fault: Some(13),
+        lowest: Ok(Some(41)),
         travel: Ok(Some(63)),
         door: Err(13),
     },
@@ -393,7 +475,9 @@ const ROWS: [Row; 44] = [
         at: 15,
         byte: 1,
         records: 3,
+        sum: 166,
         fault: None,
+        lowest: Ok(Some(41)),
         travel: Ok(Some(63)),
         door: Ok(None),
     },
@@ -402,7 +486,9 @@ const ROWS: [Row; 44] = [
         at: 16,
         byte: 1,
         records: 3,
+        sum: 166,
         fault: None,
+        lowest: Ok(Some(41)),
         travel: Ok(Some(63)),
         door: Ok(None),
     },
@@ -411,7 +497,9 @@ const ROWS: [Row; 44] = [
         at: 17,
         byte: 56,
         records: 3,
+        sum: 167,
         fault: None,
+        lowest: Ok(Some(41)),
         travel: Ok(Some(63)),
         door: Ok(Some(56)),
     },
@@ -420,24 +508,35 @@ const ROWS: [Row; 44] = [
         at: 18,
         byte: 1,
         records: 3,
+        sum: 167,
         fault: None,
+        lowest: Ok(Some(41)),
         travel: Ok(Some(63)),
         door: Ok(Some(311)),
     },
 ];
 
-/// Reads to the end or to a refusal, and how many records came before it.
-fn count_records(bytes: &[u8]) -> (usize, Option<Fault>) {
+/// Reads to the end or to a refusal: how many records came before it, and the sum of the bytes of their payloads.
+fn read_all(bytes: &[u8]) -> (usize, u32, Option<Fault>) {
     // A reader is no iterator, and refuses without end: the loop is bounded by the bytes, of which a record takes four.
     let mut reader = Reader::new(bytes);
+    let mut sum: u32 = 0;
     for count in 0..=bytes.len() {
         match reader.next() {
-            Ok(Some(_)) => {}
-            Ok(None) => return (count, None),
-            Err(fault) => return (count, Some(fault)),
+            Ok(Some(record)) => sum = record
+                .payload
+                .iter()
+                .fold(sum, |sum, byte| sum.wrapping_add(u32::from(*byte))),
+            Ok(None) => return (count, sum, None),
+            // Asked once more, it is to refuse alike.
+            Err(fault) => return (
+                count,
+                sum,
+                reader.next().err().filter(|again| *again == fault),
+            ),
         }
     }
-    (0, None)
+    (0, 0, None)
 }
 
 /// The answer of a lookup.
@@ -449,9 +548,11 @@ fn row_holds(row: Row) -> Result<(), Fail> {
     let mut bytes = TABLE;
     *bytes.get_mut(row.at).ok_or("no byte there")? = row.byte;
     let table = bytes.get(..row.size).ok_or("no table so long")?;
-    let (count, refused) = count_records(table);
+    let (count, sum, refused) = read_all(table);
     check_eq(count, row.records)?;
+    check_eq(sum, row.sum)?;
     check_eq(refused, row.fault.map(|place| at(Cause::BadRecord, place)))?;
+    check_eq(time_of(table, Kind::Travel, 0), answer(row.lowest))?;
     check_eq(time_of(table, Kind::Travel, 1), answer(row.travel))?;
     check_eq(time_of(table, Kind::Door, 0), answer(row.door))
 }
@@ -464,7 +565,7 @@ fn cut_and_spoiled() -> Result<(), Fail> {
     Ok(())
 }
 
-/// Kind, place and payload, floors past the last entry, and the same refusal twice.
+/// Kind, place and payload, the same refusal twice, nothing twice behind the last record, and floors past the last entry.
 #[test]
 fn handed_out(rt: HostRuntime) -> Result<(), Fail> {
     let mut reader = Reader::new(&TABLE[0..18]);
@@ -478,6 +579,15 @@ fn handed_out(rt: HostRuntime) -> Result<(), Fail> {
     assert!(rt; second.payload == [41, 0, 63, 0].as_slice());
     assert!(rt; reader.next().err() == Some(at(Cause::BadRecord, 13)));
     assert!(rt; reader.next().err() == Some(at(Cause::BadRecord, 13)));
+    let mut whole = Reader::new(&TABLE);
+    assert!(rt; whole.next()?.is_some());
+    assert!(rt; whole.next()?.is_some());
+    let third = whole.next()?.ok_or("no record")?;
+    assert_eq!(rt; third.kind, Kind::Door);
+    assert_eq!(rt; third.place, 13);
+    assert!(rt; third.payload == [55, 0].as_slice());
+    assert!(rt; whole.next()?.is_none());
+    assert!(rt; whole.next()?.is_none());
     assert_eq!(rt; time_of(&TABLE, Kind::Travel, 2), Ok(None));
     assert_eq!(rt; time_of(&TABLE, Kind::Travel, u32::MAX), Ok(None));
     assert_eq!(rt; time_of(&TABLE, Kind::Door, 1), Ok(None));
