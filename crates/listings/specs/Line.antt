@@ -9,10 +9,12 @@ use Rattle.link.specs.declared.receiver.Answer.{Answer}
 use Rattle.link.specs.Receiver.{Offered, Repeated, Keeps, flips_by}
 use Rattle.runs.specs.declared.calls.Call.{Call}
 use Rattle.runs.specs.declared.calls.Call.TheVariants.{Offer, Repeat, Clear}
+use Rattle.lines.specs.declared.heading.Heading.{Heading}
 use Rattle.lines.specs.declared.reply.Reply.{Reply}
 use Rattle.lines.specs.declared.reply.Reply.TheVariants.{Cleared, Refused}
 use Rattle.lines.specs.Command.{Stands, StandsForNone}
 use Rattle.lines.specs.Reply.{reply_to, reply_text}
+use Rattle.listings.specs.Choice.{named}
 use Rattle.listings.specs.Listing.{Held}
 
 -- the reply to what the receiver answered
@@ -54,3 +56,9 @@ OneLine = (m : Meaning) → Lawful m → (line : List ℕ) (before : Held × Lis
 pub record Thirteen : Type 0 where
   pub only_then : (m : Meaning) (line : List ℕ) (before after : Held) (c : Cause) → Replied m line before (Refused c) after → number c ≡ 13 → StandsForNone line
   pub always : (m : Meaning) (line : List ℕ) (before after : Held) (reply : Reply) → Replied m line before reply after → StandsForNone line → (c : Cause) × (number c ≡ 13) × (reply ≡ Refused c)
+
+-- Over a code that a first line names, a line is refused with 2, 5, 6 or 13, and with no other number.
+abbrev pub Refusals : Type 0
+Refusals =
+    (h : Heading) (line : List ℕ) (before after : Held) (c : Cause) → Replied (named h) line before (Refused c) after →
+    (number c ≡ 2) ⊎ ((number c ≡ 5) ⊎ ((number c ≡ 6) ⊎ (number c ≡ 13)))

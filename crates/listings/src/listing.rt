@@ -7,7 +7,7 @@ ghost use Rattle.lines.specs.Reply.{reply_text};
 ghost use Rattle.listings.specs.Choice.{named};
 ghost use Rattle.listings.specs.Conversation.{KeepsBook};
 ghost use Rattle.listings.specs.Listing.{meaning_in, places_in, flips_in, held_in, Opens};
-ghost use Rattle.listings.specs.Line.{Replied, line_fits, Lined, OneLine, Thirteen};
+ghost use Rattle.listings.specs.Line.{Replied, line_fits, Lined, OneLine, Thirteen, Refusals};
 ghost use Rattle.listings.specs.Steps.{reply_for};
 
 use crate::choice::Choice;
@@ -81,6 +81,7 @@ impl Listing {
         ensures grammar { Grammar }
         ensures one { OneLine }
         ensures thirteen { Thirteen }
+        ensures refusals { Refusals }
         ensures book { KeepsBook }
     {
         line_laws();
@@ -91,7 +92,7 @@ impl Listing {
 
 /// Refuses a buffer that has no room for every reply.
 fn check_room(buffer: &[u8]) -> Result<(), Fault>
-    ensures { Outcome (line_fits buffer.now ∷ []) (λ unit. Unit {0}) result }
+    ensures { Outcome (line_fits buffer.now ∷ []) (λ _. Unit {0}) result }
 {
     if buffer.len() < ROOM {
         return Err(too_short());
@@ -104,5 +105,6 @@ fn line_laws()
     ensures grammar { Grammar }
     ensures one { OneLine }
     ensures thirteen { Thirteen }
+    ensures refusals { Refusals }
     ensures book { KeepsBook }
 {}
