@@ -64,7 +64,7 @@ place_short p low = omega (arith, count_most 10 3 p (omega arith) (omega arith) 
 word_short : (w : ℕ) → w < 2 ^ 44 → length (field 16 w) ≤ 12
 word_short w low = omega (arith, count_most 16 11 w (omega arith) (omega arith) (omega arith))
 
-pub short_reply : (reply : Reply) → Usual reply → length (reply_text reply) ≤ 32
+pub short_reply : (reply : Reply) → Usual reply → length (reply_text reply) ≤ 31
 short_reply (Settled p m e) so =
     simp length-append (omega (arith, place_short p so.0, word_short m so.1, word_short e so.2))
 short_reply (Gap p) so = simp length-append (omega (arith, place_short p so))

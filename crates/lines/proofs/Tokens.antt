@@ -1,14 +1,15 @@
 -- Where a text is cut, and that it is cut there only.
-use Rattle.std.proofs.Common.{◌≡◌, ℕ, zero, suc, ◌+◌, ◌≤◌, ltb, ◌⊎◌, List, [], ◌∷◌, ◌++◌, map, length, get_or, drop, sym, refl, ap, ◌∙◌, subst, inl, inr, ⊎_elim, arith}
-use Rattle.std.specs.Int.Digits.{AllBelowBase, number_from_digits}
+use Rattle.std.proofs.Common.{◌≡◌, ℕ, zero, suc, ◌+◌, ◌≤◌, ltb, ◌⊎◌, List, [], ◌∷◌, ◌++◌, map, length, get_or, drop, sym, refl, ap, ◌∙◌, subst, inl, inr, ⊎_elim, ◌<◌, arith}
+use Rattle.std.specs.Int.Digits.{AllBelowBase, number_from_digits, digits_of}
 use Rattle.std.specs.List.{AllByRecursion}
 use Rattle.std.proofs.ByRecursion.{All-map, All-weaker}
-use Rattle.std.proofs.lemmas.List.{length-map}
+use Rattle.std.proofs.lemmas.Int.Digits.{first_digits_of, length-digits_of_step}
+use Rattle.std.proofs.lemmas.List.{length-map, get_or-map}
 use Rattle.std.proofs.lemmas.Bool.{cases_eq, cases_lt, cond_both}
 use Rattle.std.proofs.lemmas.Bool.Decides.{nat_tests}
-use Rattle.lines.specs.Number.{digit, IsDigit, Writes, text_of}
+use Rattle.lines.specs.Number.{digit, IsDigit, Writes, text_of, Plain}
 use Rattle.lines.specs.Token.{space, NoSpace}
-use Rattle.lines.proofs.Numbers.{writes_count, text_writes}
+use Rattle.lines.proofs.Numbers.{writes_count, text_some, text_writes}
 
 -- ---- the first space
 
@@ -75,6 +76,22 @@ same_text_of base x y two e =
     let n = length (text_of base x) in
     same_number (text_writes base n x two (omega arith))
     (subst (λ (t : List ℕ). Writes base n t y) (sym e) (text_writes base n y two (omega (arith, ap length e))))
+
+-- no number but 0 is written with `0` in front
+no_zero : (base x : ℕ) (rest : List ℕ) → 2 ≤ base → 0 < x → text_of base x ≡ digit 0 ∷ rest → ⊥
+no_zero base x rest two some e =
+    let first : 0 < get_or (digits_of base x) 0 0 = first_digits_of base x two some in
+    let inside : 0 < length (digits_of base x) = omega (arith, length-digits_of_step base x two some) in
+    let text : map digit (digits_of base x) ≡ digit 0 ∷ rest = sym (text_some base x some) ∙ e in
+    let heads : digit (get_or (digits_of base x) 0 0) ≡ digit 0 = sym (get_or-map digit (digits_of base x) 0 0 0 inside) ∙ ap (λ (t : List ℕ). get_or t 0 0) text in
+    omega (arith, first, digit_injective (get_or (digits_of base x) 0 0) 0 heads)
+
+pub plain : Plain
+plain = record {
+  writes = λ base x two. text_writes base (length (text_of base x)) x two (omega arith);
+  of_zero = λ base. refl;
+  no_zero = no_zero;
+}
 
 decide_digit : (base byte : ℕ) → ((d : ℕ) × IsDigit base byte d) ⊎ ((d : ℕ) → IsDigit base byte d → ⊥)
 decide_digit zero byte = inr (λ d is. omega (arith, is.0))

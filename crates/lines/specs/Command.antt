@@ -9,11 +9,20 @@ use Rattle.runs.specs.declared.calls.Call.TheVariants.{Offer, Repeat, Clear}
 use Rattle.lines.specs.Number.{Writes}
 use Rattle.lines.specs.Token.{space}
 
--- the letter of a command: W, R and C
+-- the letters of the commands: W, R and C
+abbrev pub offer_letter : ℕ
+offer_letter = 87
+
+abbrev pub repeat_letter : ℕ
+repeat_letter = 82
+
+abbrev pub clear_letter : ℕ
+clear_letter = 67
+
 abbrev pub command_letter : Call → ℕ
-command_letter (Offer w) = 87
-command_letter (Repeat p w) = 82
-command_letter Clear = 67
+command_letter (Offer w) = offer_letter
+command_letter (Repeat p w) = repeat_letter
+command_letter Clear = clear_letter
 
 -- a line stands for a command
 abbrev pub Stands : List ℕ → Call → Type 0

@@ -1,5 +1,5 @@
 -- Numbers as digits.
-use Rattle.std.specs.Prelude.{◌≡◌, ℕ, ◌+◌, ◌<◌, ◌≤◌, cond, List, [], ◌∷◌, map, length, ◌==◌, nat_lt}
+use Rattle.std.specs.Prelude.{◌≡◌, ℕ, ◌+◌, ◌<◌, ◌≤◌, cond, List, [], ◌∷◌, map, length, ◌==◌, nat_lt, ◌≢◌}
 use Rattle.std.specs.Int.Digits.{number_from_digits, digits_of, AllBelowBase}
 use Rattle.lines.specs.declared.number.Base.{Base}
 use Rattle.lines.specs.declared.number.Base.TheVariants.{Decimal, Hexadecimal}
@@ -28,3 +28,9 @@ pub record Writes (base most : ℕ) (text : List ℕ) (x : ℕ) : Type 0 where
 -- the text of a number: no leading zero, and 0 is `0`
 abbrev pub text_of : ℕ → ℕ → List ℕ
 text_of base x = cond (x == 0) (digit 0 ∷ []) (map digit (digits_of base x))
+
+-- The text of a number writes that number. It is `0` for 0, and begins with `0` for no other.
+pub record Plain : Type 0 where
+  pub writes : (base x : ℕ) → 2 ≤ base → Writes base (length (text_of base x)) (text_of base x) x
+  pub of_zero : (base : ℕ) → text_of base 0 ≡ digit 0 ∷ []
+  pub no_zero : (base x : ℕ) (rest : List ℕ) → 2 ≤ base → 0 < x → text_of base x ≢ digit 0 ∷ rest

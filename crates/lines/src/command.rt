@@ -1,6 +1,6 @@
 //! The lines that stand for commands.
 ghost use Rattle.std.specs.Prelude.{◌∷◌};
-ghost use Rattle.lines.specs.Command.{Finds, ReadAs, Grammar};
+ghost use Rattle.lines.specs.Command.{offer_letter, repeat_letter, clear_letter, Finds, ReadAs, Grammar};
 
 use crate::token::{Token, after_space, cut_at_space};
 use codes::fault::{Cause, Fault};
@@ -8,7 +8,7 @@ use runs::calls::Call;
 
 /// What a `W` is followed by: a word.
 fn read_offer(tail: &[u8]) -> Option<Call>
-    ensures { Finds (87 ∷ tail.now) result }
+    ensures { Finds (offer_letter ∷ tail.now) result }
 {
     let word = Token::Word(after_space(tail)?).number()?;
     Some(Call::Offer { word })
@@ -16,7 +16,7 @@ fn read_offer(tail: &[u8]) -> Option<Call>
 
 /// What an `R` is followed by: a place and a word.
 fn read_repeat(tail: &[u8]) -> Option<Call>
-    ensures { Finds (82 ∷ tail.now) result }
+    ensures { Finds (repeat_letter ∷ tail.now) result }
 {
     let (digits, rest) = cut_at_space(after_space(tail)?)?;
     let place = Token::Place(digits).number()?;
@@ -29,7 +29,7 @@ fn read_repeat(tail: &[u8]) -> Option<Call>
 
 /// What a `C` is followed by: nothing.
 fn read_clear(tail: &[u8]) -> Option<Call>
-    ensures { Finds (67 ∷ tail.now) result }
+    ensures { Finds (clear_letter ∷ tail.now) result }
 {
     tail.is_empty().then_some(Call::Clear)
 }

@@ -3,6 +3,7 @@ ghost use Rattle.std.specs.Prelude.{◌≡◌, ◌≤◌, length};
 ghost use Rattle.codes.specs.declared.fault.Cause.TheVariants.{TooShort};
 ghost use Rattle.codes.specs.declared.fault.Layer.TheVariants.{Table};
 ghost use Rattle.codes.specs.Fault.{fault};
+ghost use Rattle.lines.specs.Number.{Plain};
 ghost use Rattle.lines.specs.Reply.{reply_words, Written, OneWriting, Told};
 
 use crate::line::Line;
@@ -88,6 +89,7 @@ impl Reply {
         ensures written { Written self buffer.old result buffer.new }
         ensures one { OneWriting }
         ensures told { Told }
+        ensures plain { Plain }
     {
         one_writing();
         let line = self.words().end();
@@ -110,8 +112,9 @@ pub fn too_short() -> Fault
     }
 }
 
-/// A reply leaves a buffer one outcome, and is told from every other by its line. It does nothing but say so.
+/// A reply leaves a buffer one outcome, and is told from every other by its line; its numbers are written plainly. It does nothing but say so.
 fn one_writing()
     ensures one { OneWriting }
     ensures told { Told }
+    ensures plain { Plain }
 {}

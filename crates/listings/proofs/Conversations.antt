@@ -7,7 +7,8 @@ use Rattle.runs.specs.Book.{noted, book_from, Demanded}
 use Rattle.runs.proofs.Following.{offer_noted, repeat_noted, demanded_none}
 use Rattle.lines.specs.declared.reply.Reply.{Reply}
 use Rattle.lines.specs.Command.{Stands, StandsForNone}
-use Rattle.listings.specs.Listing.{Held, Does}
+use Rattle.listings.specs.Listing.{Held}
+use Rattle.listings.specs.Line.{Does}
 use Rattle.listings.specs.Conversation.{Answered, Commands, nothing, KeepsBook}
 
 -- the report holds what the book demands

@@ -2,4 +2,4 @@ mod Conversations
 pub mod Fronts
 mod Short
 mod OneReply
-mod Writing
+mod Refusals

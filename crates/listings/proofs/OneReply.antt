@@ -19,7 +19,8 @@ use Rattle.lines.specs.declared.reply.Reply.TheVariants.{Cleared, Refused}
 use Rattle.lines.specs.Command.{ReadAs}
 use Rattle.lines.specs.Reply.{reply_text}
 use Rattle.lines.proofs.Commands.{grammar}
-use Rattle.listings.specs.Listing.{Held, reply_of, Does, Replied, line_fits, OneLine}
+use Rattle.listings.specs.Listing.{Held}
+use Rattle.listings.specs.Line.{reply_of, Does, Replied, line_fits, OneLine}
 
 abbrev held : List Place → List ℕ → Held
 held ps fs = record { places = ps; flips = fs }

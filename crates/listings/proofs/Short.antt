@@ -1,4 +1,4 @@
--- Every reply has at most 32 bytes: places are below 256, and words of a code in service below 2 ^ 42.
+-- Every reply has at most 31 bytes: places are below 256, and words of a code in service below 2 ^ 42.
 use Rattle.std.proofs.Common.{ℕ, ◌-◌, ◌^◌, ◌<◌, ◌≤◌, List, length, Ok, Err, sym, subst, inl, inr, lt_of_lt_of_le, lt_of_le_of_lt, div-le_self, arith, pow_mono}
 use lib.Bits.{bit_xor, xor_lt}
 use Rattle.std.proofs.lemmas.Option.{slice_get_within}
@@ -12,7 +12,10 @@ use Rattle.lines.specs.Reply.{reply_text}
 use Rattle.lines.proofs.Replies.{Usual, short_reply}
 use Rattle.runs.specs.declared.calls.Call.{Call}
 use Rattle.runs.specs.declared.calls.Call.TheVariants.{Offer, Repeat, Clear}
-use Rattle.listings.specs.Listing.{Held, reply_of, Does, Replied}
+use Rattle.listings.specs.declared.listing.Listing.{Listing}
+use Rattle.listings.specs.Lawfulness.{choice_lawful, few_places}
+use Rattle.listings.specs.Listing.{meaning_in, held_in, Held}
+use Rattle.listings.specs.Line.{reply_of, Does, Replied}
 
 -- a word of n bits, where n is at most 42
 narrow : (n w : ℕ) → n ≤ 42 → w < 2 ^ n → w < 2 ^ 44
@@ -41,6 +44,10 @@ module _ (m : Meaning) (law : Lawful m) (before : Held) (few : length before.pla
   usual_done (Repeat p w) reply after (Err f, repeated, keeps, e) = subst Usual (sym e) tt
   usual_done Clear reply after (e, places, flips) = subst Usual (sym e) tt
 
-  pub short_replied : (line : List ℕ) (reply : Reply) (after : Held) → Replied m line before reply after → length (reply_text reply) ≤ 32
+  short_replied : (line : List ℕ) (reply : Reply) (after : Held) → Replied m line before reply after → length (reply_text reply) ≤ 31
   short_replied line reply after (inl (c, stands, done)) = short_reply reply (usual_done c reply after done)
   short_replied line reply after (inr (none, passes)) = short_reply reply (subst Usual (sym passes.0.2) tt)
+
+-- so of a listing, whose code keeps the laws
+pub short_line : (l : Listing) (line : List ℕ) (reply : Reply) (after : Held) → Replied (meaning_in l) line (held_in l) reply after → length (reply_text reply) ≤ 31
+short_line l line reply after = short_replied (meaning_in l) (choice_lawful l.receiver.code) (held_in l) (few_places l.receiver.report) line reply after

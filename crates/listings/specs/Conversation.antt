@@ -5,7 +5,8 @@ use Rattle.runs.specs.declared.calls.Call.{Call}
 use Rattle.runs.specs.Book.{book, Demanded}
 use Rattle.lines.specs.declared.reply.Reply.{Reply}
 use Rattle.lines.specs.Command.{Stands, StandsForNone}
-use Rattle.listings.specs.Listing.{Held, Replied}
+use Rattle.listings.specs.Listing.{Held}
+use Rattle.listings.specs.Line.{Replied}
 
 -- line after line is answered
 abbrev pub Answered : Meaning → Held → List (List ℕ) → List Reply → Held → Type 0

@@ -1,11 +1,13 @@
 //! A listing that is open: each line is a command, and gets a line for its answer.
-ghost use Rattle.std.specs.Prelude.{◌≡◌, ◌≤◌, [], length};
+ghost use Rattle.std.specs.Prelude.{◌≡◌, ◌≤◌, [], ◌∷◌, length};
+ghost use Rattle.codes.specs.Fault.{Outcome};
 ghost use Rattle.lines.specs.Command.{Grammar};
 ghost use Rattle.lines.specs.Heading.{Headings};
 ghost use Rattle.lines.specs.Reply.{reply_text};
 ghost use Rattle.listings.specs.Choice.{named};
 ghost use Rattle.listings.specs.Conversation.{KeepsBook};
-ghost use Rattle.listings.specs.Listing.{meaning_in, places_in, flips_in, held_in, Opens, Replied, Lined, OneLine};
+ghost use Rattle.listings.specs.Listing.{meaning_in, places_in, flips_in, held_in, Opens};
+ghost use Rattle.listings.specs.Line.{Replied, line_fits, Lined, OneLine, Thirteen, Refusals};
 ghost use Rattle.listings.specs.Steps.{reply_for};
 
 use crate::choice::Choice;
@@ -22,7 +24,7 @@ pub struct Listing {
     receiver: Receiver<Choice>,
 }
 
-/// How many bytes a buffer has to have. The longest reply takes 31.
+/// How many bytes a buffer has to have. No reply takes more than 31.
 pub const ROOM: usize = 32;
 
 impl Listing {
@@ -52,21 +54,22 @@ impl Listing {
         ensures replied { Replied (meaning_in self.old) line.now (held_in self.old) (reply_for result) (held_in self.new) }
         ensures same { self.new.receiver.code ≡ self.old.receiver.code }
     {
-        match read_command(line)? {
-            Call::Offer { word } => self.receiver.offer(word).map(Reply::from),
-            Call::Repeat { place, word } => self.receiver.repeat(place, word).map(Reply::from),
+        let reply = match read_command(line)? {
+            Call::Offer { word } => self.receiver.offer(word)?.into(),
+            Call::Repeat { place, word } => self.receiver.repeat(place, word)?.into(),
             Call::Clear => {
                 self.receiver.clear();
-                Ok(Reply::Cleared)
+                Reply::Cleared
             }
-        }
+        };
+        Ok(reply)
     }
 
     /// The reply to a line, which is always short.
     fn answer(&mut self, line: &[u8]) -> Reply
         ensures replied { Replied (meaning_in self.old) line.now (held_in self.old) result (held_in self.new) }
         ensures same { self.new.receiver.code ≡ self.old.receiver.code }
-        ensures short { length (reply_text result) ≤ 32 }
+        ensures short { length (reply_text result) ≤ 31 }
     {
         self.carry_out(line).unwrap_or_else(Reply::from)
     }
@@ -77,19 +80,31 @@ impl Listing {
         ensures same { self.new.receiver.code ≡ self.old.receiver.code }
         ensures grammar { Grammar }
         ensures one { OneLine }
+        ensures thirteen { Thirteen }
+        ensures refusals { Refusals }
         ensures book { KeepsBook }
     {
         line_laws();
-        if buffer.len() < ROOM {
-            return Err(too_short());
-        }
+        check_room(buffer)?;
         self.answer(line).write(buffer)
     }
+}
+
+/// Refuses a buffer that has no room for every reply.
+fn check_room(buffer: &[u8]) -> Result<(), Fault>
+    ensures { Outcome (line_fits buffer.now ∷ []) (λ _. Unit {0}) result }
+{
+    if buffer.len() < ROOM {
+        return Err(too_short());
+    }
+    Ok(())
 }
 
 /// Each line has one reading, and leaves one answer, one report and one buffer; whole conversations keep to the book. It does nothing but say so.
 fn line_laws()
     ensures grammar { Grammar }
     ensures one { OneLine }
+    ensures thirteen { Thirteen }
+    ensures refusals { Refusals }
     ensures book { KeepsBook }
 {}

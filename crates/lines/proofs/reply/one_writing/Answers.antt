@@ -1,5 +1,6 @@
 use Rattle.lines.proofs.Replies.{one_writing, told}
+use Rattle.lines.proofs.Tokens.{plain}
 use Rattle.lines.proofs.reply.one_writing.Goals as goal
 
 pub returns : goal.returns
-returns c = record { one = one_writing; told = told }
+returns c = record { one = one_writing; told = told; plain = plain }
