@@ -64,7 +64,9 @@ fn show_floor(rt: &impl Print, floor: u32, whole: &[u8], shifted: &[u8]) -> io::
 pub fn times(rt: &impl Print, words: &Words) -> Result<(), Stop> {
     let whole = whole_table(words)?;
     let shifted = shifted_table(words)?;
-    println!(rt; "times in seconds, each beside what the car would read with word {SPOILED} dropped")?;
+    println!(rt;
+        "times in seconds, each beside what the car would read with word {SPOILED} dropped"
+    )?;
     println!(rt; "  floor   travel  dropped     door  dropped")?;
     for floor in FLOORS {
         show_floor(rt, floor, whole.as_slice(), shifted.as_slice())?;

@@ -1,16 +1,14 @@
 -- What each letter leaves, that no line stands for two commands, and that each line has one reading.
-use Rattle.std.proofs.Common.{◌≡◌, ℕ, ◌≤◌, ◌⊎◌, List, [], ◌∷◌, ◌++◌, length, get_or, drop, Ok, Err, Result, sym, refl, ap, ◌∙◌, subst, inl, inr, ⊎_elim, arith}
+use Rattle.std.proofs.Common.{◌≡◌, ℕ, ◌≤◌, ◌⊎◌, List, [], ◌∷◌, ◌++◌, length, get_or, drop, sym, refl, ap, ◌∙◌, subst, inl, inr, ⊎_elim, arith}
 use Rattle.std.proofs.lemmas.List.{length-append}
 use Rattle.std.proofs.lemmas.Bool.{cases_eq}
-use Rattle.codes.specs.declared.fault.Cause.TheVariants.{BadLine}
-use Rattle.codes.specs.declared.fault.Fault.{Fault}
-use Rattle.codes.proofs.Faults.{Decided, one_outcome}
 use Rattle.runs.specs.declared.calls.Call.{Call}
 use Rattle.runs.specs.declared.calls.Call.TheVariants.{Offer, Repeat, Clear}
-use Rattle.lines.specs.Command.{command_letter, Stands, StandsForNone, is_command, ReadAs, BadLineFault, Grammar}
+use Rattle.lines.specs.Command.{command_letter, Stands, StandsForNone, Grammar}
 use Rattle.lines.specs.Number.{Writes}
 use Rattle.lines.specs.Token.{space, NoSpace}
 use Rattle.lines.proofs.Numbers.{writes_count}
+use Rattle.lines.proofs.Readings.{refusal, refused, read, one_reading}
 use Rattle.lines.proofs.Tokens.{not_cut, same_cut, decide_cut, writes_no_space, same_number, decide_writes}
 
 -- ---- the first letter
@@ -138,30 +136,13 @@ decide (b ∷ tail) =
 
 -- ---- each line has one reading
 
-command_decided : (line : List ℕ) → Decided (is_command line)
-command_decided line = record { named = (BadLine, refl); either = decide line; not_both = λ p none. none p.0 p.1 }
-
-refusal : (line : List ℕ) (f : Fault) → ReadAs line (Err f) → StandsForNone line × BadLineFault f
-refusal line f q =
-    ⊎_elim (λ a. (a.0, record { cause = a.1.0; layer = a.1.1; place = a.1.2 })) (λ a. absurd a.1) q
-
-read : (line : List ℕ) (r : Result Call Fault) → ReadAs line r → (c : Call) → Stands line c → r ≡ Ok c
-read line (Ok d) q c s = ap Ok (one_command line d c q.1 s)
-read line (Err f) q c s = absurd ((refusal line f q).0 c s)
-
-refused : (line : List ℕ) (r : Result Call Fault) → ReadAs line r → StandsForNone line → (f : Fault) × (r ≡ Err f) × BadLineFault f
-refused line (Ok d) q none = absurd (none d q.1)
-refused line (Err f) q none = (f, refl, (refusal line f q).1)
-
 pub grammar : Grammar
 grammar = record {
   one_command = one_command;
-  read = read;
-  refused = refused;
-  only_then = refusal;
-  one_outcome = λ line.
-      one_outcome (Stands line) (is_command line ∷ []) (command_decided line, λ _. tt)
-      (λ p. (p.0.0, p.0.1, λ d s. one_command line d p.0.0 s p.0.1));
+  read = λ line. read (Stands line) (one_command line);
+  refused = λ line. refused (Stands line);
+  only_then = λ line. refusal (Stands line);
+  one_outcome = λ line. one_reading (Stands line) (one_command line) (decide line);
 }
 
 -- ---- how long a command is

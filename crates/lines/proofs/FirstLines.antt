@@ -1,15 +1,15 @@
 -- That no line is two headings, and that each line has one reading.
-use Rattle.std.proofs.Common.{◌≡◌, ℕ, Bool, true, false, ◌⊎◌, List, [], ◌∷◌, ◌++◌, length, get_or, take, drop, Ok, Err, Result, sym, refl, ap, ◌∙◌, inl, inr, ⊎_elim, arith}
+use Rattle.std.proofs.Common.{◌≡◌, ℕ, Bool, true, false, ◌⊎◌, List, ◌++◌, length, get_or, take, drop, sym, refl, ap, ◌∙◌, inl, inr, ⊎_elim, arith}
 use Rattle.std.proofs.lemmas.List.{take_at, drop_at}
-use Rattle.std.proofs.lemmas.Bool.{cases_eq}
-use Rattle.codes.specs.declared.fault.Cause.TheVariants.{BadLine}
-use Rattle.codes.specs.declared.fault.Fault.{Fault}
-use Rattle.codes.proofs.Faults.{Decided, one_outcome}
+use Rattle.std.specs.Bool.{Decides}
+use Rattle.std.specs.Str.{bytes_eq}
+use Rattle.std.proofs.lemmas.Bool.Decides.{not_from_Decides}
+use Rattle.std.proofs.lemmas.Slice.Eq.{bytes_eq-Decides}
 use Rattle.lines.specs.declared.heading.Heading.{Heading}
 use Rattle.cyclic.specs.declared.name.Name.{Name}
 use Rattle.cyclic.specs.declared.name.Name.TheVariants.{G23, Q31, Q41}
-use Rattle.lines.specs.Command.{BadLineFault}
-use Rattle.lines.specs.Heading.{name_text, mark_text, heading_text, NamesNone, is_heading, HeadingReadAs, Headings}
+use Rattle.lines.proofs.Readings.{refusal, refused, read, one_reading}
+use Rattle.lines.specs.Heading.{name_text, mark_text, heading_text, NamesNone, Headings}
 
 -- ---- no line is two headings
 
@@ -19,14 +19,9 @@ heading n p = record { name = n; parity = p }
 -- the second byte tells the names apart, and the length whether there is a mark
 same_name : (m n : Name) → name_text m ≡ name_text n → m ≡ n
 same_name G23 G23 e = refl
-same_name G23 Q31 e = absurd (omega (arith, ap (λ (l : List ℕ). get_or l 1 0) e))
-same_name G23 Q41 e = absurd (omega (arith, ap (λ (l : List ℕ). get_or l 1 0) e))
-same_name Q31 G23 e = absurd (omega (arith, ap (λ (l : List ℕ). get_or l 1 0) e))
 same_name Q31 Q31 e = refl
-same_name Q31 Q41 e = absurd (omega (arith, ap (λ (l : List ℕ). get_or l 1 0) e))
-same_name Q41 G23 e = absurd (omega (arith, ap (λ (l : List ℕ). get_or l 1 0) e))
-same_name Q41 Q31 e = absurd (omega (arith, ap (λ (l : List ℕ). get_or l 1 0) e))
 same_name Q41 Q41 e = refl
+same_name m n e = absurd (omega (arith, ap (λ (l : List ℕ). get_or l 1 0) e))
 
 same_mark : (p q : Bool) → mark_text p ≡ mark_text q → p ≡ q
 same_mark true true e = refl
@@ -54,12 +49,12 @@ one_heading line g h p q =
 
 -- ---- each line is a heading, or none
 
+decided : {P : Type 0} (r : Bool) → Decides r P → P ⊎ (P → ⊥)
+decided true d = inl (d.0 refl)
+decided false d = inr (not_from_Decides false d refl)
+
 same_text : (xs ys : List ℕ) → (xs ≡ ys) ⊎ (xs ≡ ys → ⊥)
-same_text [] [] = inl refl
-same_text [] (y ∷ ys) = inr (λ e. let z : ◌≡◌ {A = ℕ} 0 1 = cc in omega arith)
-same_text (x ∷ xs) [] = inr (λ e. let z : ◌≡◌ {A = ℕ} 0 1 = cc in omega arith)
-same_text (x ∷ xs) (y ∷ ys) =
-    ⊎_elim (λ heads. ⊎_elim (λ tails. inl (cc)) (λ other. inr (λ e. other (cc))) (same_text xs ys)) (λ other. inr (λ e. other (cc))) (cases_eq x y)
+same_text xs ys = decided (bytes_eq xs ys) (bytes_eq-Decides xs ys)
 
 -- one of the names with a test of its own, or none
 decide_name : (P : Name → Type 0) → ((n : Name) → P n ⊎ (P n → ⊥)) → ((n : Name) × P n) ⊎ ((n : Name) → P n → ⊥)
@@ -90,27 +85,14 @@ decide line =
 
 -- ---- each line has one reading
 
-heading_decided : (line : List ℕ) → Decided (is_heading line)
-heading_decided line = record { named = (BadLine, refl); either = decide line; not_both = λ p none. none p.0 p.1 }
-
-refusal : (line : List ℕ) (f : Fault) → HeadingReadAs line (Err f) → NamesNone line × BadLineFault f
-refusal line f q = ⊎_elim (λ a. (a.0, record { cause = a.1.0; layer = a.1.1; place = a.1.2 })) (λ a. absurd a.1) q
-
-read : (h : Heading) (r : Result Heading Fault) → HeadingReadAs (heading_text h) r → r ≡ Ok h
-read h (Ok g) q = ap Ok (one_heading (heading_text h) g h q.1 refl)
-read h (Err f) q = absurd ((refusal (heading_text h) f q).0 h refl)
-
-refused : (line : List ℕ) (r : Result Heading Fault) → HeadingReadAs line r → NamesNone line → (f : Fault) × (r ≡ Err f) × BadLineFault f
-refused line (Ok g) q none = absurd (none g q.1)
-refused line (Err f) q none = (f, refl, (refusal line f q).1)
+abbrev Names : List ℕ → Heading → Type 0
+Names line h = line ≡ heading_text h
 
 pub headings : Headings
 headings = record {
   one_heading = one_heading;
-  read = read;
-  refused = refused;
-  only_then = refusal;
-  one_outcome = λ line.
-      one_outcome (λ h. line ≡ heading_text h) (is_heading line ∷ []) (heading_decided line, λ _. tt)
-      (λ p. (p.0.0, p.0.1, λ g s. one_heading line g p.0.0 s p.0.1));
+  read = λ h r q. read (Names (heading_text h)) (one_heading (heading_text h)) r q h refl;
+  refused = λ line. refused (Names line);
+  only_then = λ line. refusal (Names line);
+  one_outcome = λ line. one_reading (Names line) (one_heading line) (decide line);
 }

@@ -6,10 +6,8 @@ use Rattle.std.proofs.lemmas.List.{append_assoc, append_cancel_right, length-app
 use Rattle.std.proofs.lemmas.Bool.{cases_lt}
 use Rattle.codes.specs.declared.fault.Cause.{Cause}
 use Rattle.codes.specs.declared.fault.Cause.TheVariants.{OutOfService, WordTooLong, MessageTooLong, BeyondReach, ReportFull, NotAGap, NoMessageBits, TableTooLong, TooShort, GapInReport, NotATable, BadRecord, BadLine}
-use Rattle.codes.specs.declared.fault.Fault.{Fault}
-use Rattle.codes.specs.declared.fault.Layer.TheVariants.{Table}
-use Rattle.codes.specs.Fault.{number, fault, test}
-use Rattle.codes.proofs.Faults.{Decided, one_transition, same_fault}
+use Rattle.codes.specs.Fault.{number}
+use Rattle.codes.proofs.Faults.{Decided, one_transition, numbers_distinct}
 use Rattle.lines.specs.declared.reply.Reply.{Reply}
 use Rattle.lines.specs.declared.reply.Reply.TheVariants.{Settled, Gap, Cleared, Refused}
 use Rattle.lines.specs.Number.{text_of}
@@ -112,10 +110,6 @@ same_settled p m e q n f h =
     let messages = cut_number 16 m n (text_of 16 e) (text_of 16 f) (omega arith) places.1 in
     ap (λ (x : ℕ). Settled x m e) places.0 ∙ ap (λ (x : ℕ). Settled q x e) messages.0 ∙ ap (Settled q n) (same_text_of 16 e f (omega arith) messages.1)
 
-same_cause : (c d : Cause) → number c ≡ number d → c ≡ d
-same_cause c d e =
-    ap (λ (f : Fault). f.cause) (same_fault (test (number d) Table 0 (Unit {0}) (Unit {0})) (fault c Table 0) (fault d Table 0) (e, refl, refl) (refl, refl, refl))
-
 abbrev first : List ℕ → ℕ
 first line = get_or line 0 0
 
@@ -135,7 +129,7 @@ apart Cleared (Refused d) h = absurd (omega (arith, ap first h))
 apart (Refused c) (Settled q n f) h = absurd (omega (arith, ap first h))
 apart (Refused c) (Gap q) h = absurd (omega (arith, ap first h))
 apart (Refused c) Cleared h = absurd (omega (arith, ap first h))
-apart (Refused c) (Refused d) h = ap Refused (same_cause c d (same_text_of 10 (number c) (number d) (omega arith) (ap (drop 3) h)))
+apart (Refused c) (Refused d) h = ap Refused (numbers_distinct c d (same_text_of 10 (number c) (number d) (omega arith) (ap (drop 3) h)))
 
 pub told : Told
 told = record {

@@ -54,6 +54,7 @@ fn grammar()
 {}
 
 /// Reads a line, without its line feed, as the command that it stands for.
+// `read_heading` is made alike; what each reads, and the law that it states, is its own.
 pub fn read_command(line: &[u8]) -> Result<Call, Fault>
     ensures read { ReadAs line.now result }
     ensures law { Grammar }

@@ -59,6 +59,7 @@ impl Line {
     }
 
     /// The line with a place or the number of a cause.
+    // Two functions over `number`: each says how long a number of its base can be.
     #[tactic(auto, using(crate::proofs::Numbers::behind_decimal))]
     pub(crate) fn decimal(self, number: u64) -> Line
         requires { length self ≤ 37 }

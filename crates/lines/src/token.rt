@@ -5,7 +5,7 @@ ghost use Rattle.lines.specs.Token.{TokenWrites, AfterSpace, CutAtSpace};
 use crate::number::{Base, read_number};
 
 /// A part of a line, by what it is to be.
-// One enum and no function for each: what a part is to be is said where the line is taken apart, a name too.
+// A rule of this project: a line is taken apart into tokens, each by what it is to be, which borrow from it.
 #[derive(Clone, Copy)]
 pub(crate) enum Token<'a> {
     /// A code's name.

@@ -1,13 +1,10 @@
 -- A line has one reply, and leaves one report.
 use Rattle.std.proofs.Common.{◌≡◌, ℕ, List, [], ◌∷◌, ◌++◌, length, drop, set, Ok, Err, Result, refl, ap, ◌∙◌, subst, inl, inr, ⊎_elim, arith}
 use Rattle.std.proofs.lemmas.Bool.{cases_lt}
-use Rattle.codes.specs.declared.fault.Cause.{Cause}
 use Rattle.codes.specs.declared.fault.Cause.TheVariants.{TooShort, BadLine}
 use Rattle.codes.specs.declared.fault.Fault.{Fault}
-use Rattle.codes.specs.declared.fault.Layer.TheVariants.{Table}
-use Rattle.codes.specs.Fault.{number, fault, test}
 use Rattle.codes.specs.Meaning.{Meaning, Lawful, One}
-use Rattle.codes.proofs.Faults.{Decided, one_transition, same_fault}
+use Rattle.codes.proofs.Faults.{Decided, one_transition, numbers_distinct}
 use Rattle.link.specs.declared.receiver.Answer.{Answer}
 use Rattle.link.specs.declared.report.Place.{Place}
 use Rattle.link.specs.Receiver.{Offered, Repeated, Keeps, flips_by}
@@ -55,10 +52,6 @@ one_heard P fs change ((r, ps), holds, only) = (
       λ i. (reply i, held (places i) (flips i)),
 )
 
--- one cause has the number 13
-cause_13 : (c : Cause) → number c ≡ 13 → c ≡ BadLine
-cause_13 c e = ap (λ (f : Fault). f.cause) (same_fault (test 13 Table 0 (Unit {0}) ⊥) (fault c Table 0) (fault BadLine Table 0) (e, refl, refl) (refl, refl, refl))
-
 module _ (m : Meaning) (law : Lawful m) (before : Held) where
   one_done : (c : Call) → One {A = Reply × Held} (λ x. Does m c before x.0 x.1)
   one_done (Offer w) = one_heard (Offered m w before.places) before.flips (λ a. before.flips ++ flips_by a ∷ []) (one_offer m law w before.places)
@@ -84,7 +77,7 @@ module _ (m : Meaning) (law : Lawful m) (before : Held) where
             ⊎_elim
             (λ a. absurd (none a.0 a.1))
             (λ a.
-            let reply : x.0 ≡ Refused BadLine = a.1.0.2 ∙ ap Refused (cause_13 a.1.0.0 a.1.0.1) in
+            let reply : x.0 ≡ Refused BadLine = a.1.0.2 ∙ ap Refused (numbers_distinct a.1.0.0 BadLine a.1.0.1) in
             let same : x.1 ≡ before = a.1.1 in
             λ i. (reply i, same i))
             q,
