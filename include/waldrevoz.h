@@ -1,7 +1,7 @@
 /* The link library of lift group controllers, for C.
  *
- * Every call answers 0, or the number of a refusal (1 to 13, as docs/codes.md lists them), or 254 for a code that has no
- * number, or 255 where wz_lookup finds no time. It writes through its pointers only where it answers 0, and otherwise
+ * Every call answers 0, or the number of a refusal (1 to 13, as docs/codes.md lists them), or 254 for a number that is no
+ * code's, or 255 where wz_lookup finds no time. It writes through its pointers only where it answers 0, and otherwise
  * leaves everything as it was; wz_correct_list alone writes whatever its words are, and answers 0.
  *
  * Codes: 0 is G23, 1 is Q31, 2 is Q41; 4 more adds the parity layer. Any other number is answered with 254.
@@ -49,14 +49,14 @@ uint32_t wz_correct(uint32_t code, uint64_t word, wz_correction *out);
 uint32_t wz_correct_list(uint32_t code, wz_slot *slots, size_t count);
 
 /* Sends a table of `length` bytes: writes a codeword for each of its messages into `words`, which has `room` entries, and
- * how many into `count`. Entries past them keep what they held. Refuses a table that needs more than 256 words with 8,
- * and a list that is too short with 9. */
+ * how many into `count`. Entries past them keep what they held. Tested in this order: 8 for a table that needs more than
+ * 256 words, 9 for a list that is too short. */
 uint32_t wz_send(uint32_t code, const uint8_t *table, size_t length, uint64_t *words, size_t room, size_t *count);
 
 /* Receives a table: offers all words in order to a new receiver, stops at the first that is refused with the number of
  * that refusal, then seals and spells. Writes the table into `table`, which has `room` bytes, and its size into `length`.
- * Bytes past it keep what they held. Refuses a word that is too long with 2, a 257th word with 5, a report with a gap
- * with 10, words of no table with 11, and a buffer that is too short with 9. */
+ * Bytes past it keep what they held. Tested in this order: of each word in turn, 2 for one that is too long, then 5 for
+ * a 257th; then 10 for a report with a gap, 11 for words of no table, 9 for a buffer that is too short. */
 uint32_t wz_receive(uint32_t code, const uint64_t *words, size_t count, uint8_t *table, size_t room, size_t *length);
 
 /* Looks up a floor's time in a table, in tenths of a second: kind 1 is travel, kind 2 the doors. Answers 255 where the

@@ -46,6 +46,15 @@ static void correct_list(void)
                slots[i].verdict, slots[i].message, slots[i].pattern);
 }
 
+static void hear_long_word(void)
+{
+    uint64_t word = 1ULL << 41;
+    uint8_t table[64];
+    size_t length = 0;
+    printf("receiving a word of 42 bits answers %" PRIu32, wz_receive(Q41, &word, 1, table, sizeof table, &length));
+    printf(", and the length is still %zu\n", length);
+}
+
 int main(void)
 {
     uint64_t words[16], codeword = 7;
@@ -56,6 +65,7 @@ int main(void)
     printf("encoding 200000 answers %" PRIu32, wz_encode(Q41, 0x200000, &codeword));
     printf(", and the codeword is still %" PRIx64 "\n", codeword);
     printf("a code numbered 3 answers %" PRIu32 "\n", wz_encode(3, 1, &codeword));
+    printf("  the codeword is still %" PRIx64 "\n", codeword);
     printf("correcting with parity answers %" PRIu32, wz_correct(Q41_PARITY, 0x369cb6, &found));
     printf(": message %" PRIx64 ", pattern %" PRIx64 "\n", found.message, found.pattern);
     correct_list();
@@ -67,5 +77,6 @@ int main(void)
     words[3] ^= 1;
     printf("five bits of word 3 turned over:\n");
     hear(words, count);
+    hear_long_word();
     return 0;
 }

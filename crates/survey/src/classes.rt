@@ -1,4 +1,4 @@
-//! Every syndrome class, and samples of words, against a decoder that tries all patterns.
+//! Every syndrome class, and samples of words, against a decoder that tries all patterns: once for all classes, and anew for each word of a sample.
 use crate::Survey;
 use crate::patterns::{SEED, low_ones, mixed};
 use crate::plain::Plain;
@@ -9,27 +9,27 @@ use codes::interface::Code;
 use std::alloc::{AllocError, Global};
 use std::iter;
 
-/// The pattern of each remainder, where one of at most t flips has it.
+/// The pattern of each class, where one of at most t flips is of it.
 type Table = Vec<Option<u64>>;
 
-/// Puts each pattern of at most t flips at its remainder.
+/// Puts each pattern of at most t flips at its class.
 fn table_of(heap: Global, plain: &Plain) -> Result<Table, AllocError> {
-    let mut table = vec![in heap; None; 1 << plain.checks()]?;
+    let mut table = vec![in heap; None; 1 << plain.class_bits()]?;
     for pattern in plain.patterns(0..=plain.reach) {
-        if let Some(slot) = table.get_mut(plain.remainder(pattern) as usize) {
+        if let Some(slot) = table.get_mut(plain.class(pattern) as usize) {
             *slot = Some(pattern);
         }
     }
     Ok(table)
 }
 
-/// One word of every class: the remainder itself, added to the codeword of a message.
+/// One word of every class: the same one for each message, added to the message's codeword.
 // A subject and a message stand side by side here and twice in `flips`: a struct of both would be made for one call each.
 fn each_class<C: Code>(subject: &Subject<C>, table: &Table, message: u64) -> Result<Tally, Wrong> {
     let codeword = subject.encode(message)?;
     Tally::of(
         table.iter().enumerate().map(|(class, expected)| subject.answer(
-            codeword ^ class as u64,
+            codeword ^ subject.plain.word_of(class as u64),
             *expected,
         )),
     )
@@ -54,7 +54,8 @@ impl<R: Print + Eprint + AllocGlobal> Survey<'_, R> {
         eprintln!(self.rt; "{plain}: syndrome classes")?;
         let table = table_of(self.rt.alloc(), &plain)?;
         let count = table.len();
-        let codewords = self.size.few;
+        let codewords = plain.codewords(self.size.few);
+        let plural = if codewords == 1 { "" } else { "s" };
         let mut tally = Tally::default();
         for index in 0..codewords {
             tally = each_class(subject, &table, plain.message_of_few(index))?;
@@ -62,7 +63,7 @@ impl<R: Print + Eprint + AllocGlobal> Survey<'_, R> {
         }
         let refused = tally.refused;
         println!(self.rt;
-            "{plain}: {count} syndrome classes, {codewords} words of each: {refused} refused, as the brute-force decoder says"
+            "{plain}: {count} syndrome classes, {codewords} word{plural} of each: {refused} refused, as the brute-force decoder says"
         )?;
         Ok(())
     }
@@ -73,7 +74,7 @@ impl<R: Print + Eprint> Survey<'_, R> {
     pub fn sample<C: Code>(&mut self, subject: &Subject<C>) -> anyhow::Result<()> {
         let plain = subject.plain;
         eprintln!(self.rt; "{plain}: mixed words")?;
-        let Tally { words, refused } = each_sample(subject, self.size.samples)?;
+        let Tally { words, refused } = each_sample(subject, self.size.samples_of(plain.name))?;
         println!(self.rt;
             "{plain}: {words} mixed words: {refused} refused, as the brute-force decoder says"
         )?;

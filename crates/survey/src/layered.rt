@@ -22,41 +22,42 @@ impl<R: Print + Eprint + AllocGlobal> Survey<'_, R> {
             .try_for_each(|subject| self.within_reach(subject))?;
         subjects
             .iter()
-            .try_for_each(|subject| self.classes(subject))
+            .try_for_each(|subject| self.classes(subject))?;
+        subjects.iter().try_for_each(|subject| self.sample(subject))
     }
-}
 
-impl<R: Print + Eprint> Survey<'_, R> {
-    /// Patterns on some codewords, and a sample of mixed words.
-    fn both<C: Code>(&mut self, subject: &Subject<C>) -> anyhow::Result<()> {
+    /// Patterns on some codewords, every class, and a sample of mixed words.
+    fn all<C: Code>(&mut self, subject: &Subject<C>) -> anyhow::Result<()> {
         self.within_reach(subject)?;
+        self.classes(subject)?;
         self.sample(subject)
     }
 
     /// The three codes under a parity bit.
     pub fn with_parity(&mut self) -> anyhow::Result<()> {
-        let [g23, q31, q41] = cyclic().map(|subject| subject.with_parity());
-        self.both(&g23)?;
-        self.both(&q31)?;
-        // Under 42 bits a word has too many patterns to be tried for each of a sample.
-        self.within_reach(&q41)
+        cyclic()
+            .iter()
+            .try_for_each(|subject| self.all(&subject.with_parity()))
     }
 
     /// A code, shortened by each of these.
     fn cut(&mut self, subject: Subject<Cyclic>, cuts: [u32; 4]) -> anyhow::Result<()> {
         for by in cuts {
-            self.both(&subject.shortened(by))?;
+            self.all(&subject.shortened(by))?;
         }
         Ok(())
     }
 
-    /// G23 and Q31 shortened by 1, 2, 5, and all their message bits.
+    /// The three codes shortened by 1, 2, 5, and all their message bits.
     pub fn shortened(&mut self) -> anyhow::Result<()> {
-        let [g23, q31, _] = cyclic();
+        let [g23, q31, q41] = cyclic();
         self.cut(g23, [1, 2, 5, 12])?;
-        self.cut(q31, [1, 2, 5, 16])
+        self.cut(q31, [1, 2, 5, 16])?;
+        self.cut(q41, [1, 2, 5, 21])
     }
+}
 
+impl<R: Print + Eprint> Survey<'_, R> {
     /// One flip too many.
     pub fn beyond(&mut self) -> anyhow::Result<()> {
         let [_, q31, q41] = cyclic();

@@ -134,6 +134,33 @@ impl Plain {
         rest
     }
 
+    /// How many bits tell the class of a word.
+    pub fn class_bits(&self) -> u32
+        ensures { result < 64 }
+    {
+        self.checks() + self.parity_bits()
+    }
+
+    /// The class of a word: what division leaves of its upper part, and below it whether its ones are odd, where there is a parity bit.
+    pub fn class(&self, word: u64) -> u64 {
+        let rest = self.remainder(word >> self.parity_bits());
+        if self.has_parity() {
+            rest << 1 | u64::from(word.count_ones() % 2)
+        } else {
+            rest
+        }
+    }
+
+    /// A word of a class.
+    pub fn word_of(&self, class: u64) -> u64 {
+        if self.has_parity() {
+            let rest = class >> 1;
+            rest << 1 | (u64::from(rest.count_ones() % 2) ^ class & 1)
+        } else {
+            class
+        }
+    }
+
     /// Whether a word is a codeword.
     pub fn has(&self, word: u64) -> bool {
         is_within(word, self.bits())
@@ -181,8 +208,8 @@ impl Plain {
     }
 
     /// A message for each index of a few: 0, and then mixed ones.
-    pub fn message_of_few(&self, index: u32) -> u64 {
-        self.message_at(3 * u64::from(index))
+    pub fn message_of_few(&self, index: u64) -> u64 {
+        self.message_at(index.saturating_mul(3))
     }
 
     /// The patterns of so many flips.
