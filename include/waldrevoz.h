@@ -9,7 +9,8 @@
  * What the caller owes, since nothing here can test it:
  *  - each pointer is valid, aligned for its type, and points to as many elements as the number beside it says (to one,
  *    where there is none), and those that are read hold values; a pointer with the number 0 is still not NULL;
- *  - what a call writes through one pointer overlaps nothing that another pointer of the same call reaches.
+ *  - what a call writes through one pointer overlaps nothing that another pointer of the same call reaches;
+ *  - the processor is an x86-64-v2 or later, since the library counts ones by an instruction that older ones lack.
  *
  * Link libcapi.a, which `rt lib` in crates/capi makes in out/. No call allocates, keeps a pointer or has state of its own,
  * so calls may be made from several threads at once. */

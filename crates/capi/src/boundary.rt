@@ -30,7 +30,7 @@ impl From<Fault> for Refusal {
 
 impl Refusal {
     /// The number by which C knows the refusal.
-    // A method and no `From`, like the number of a cause.
+    // C knows refusals by number, and two of them are no cause of the library. A method and no `From`, like the number of a cause.
     fn number(self) -> u32
         ensures { result ≡ refusal_number self }
     {

@@ -65,7 +65,7 @@ pub fn times(rt: &impl Print, words: &Words) -> Result<(), Stop> {
     let whole = whole_table(words)?;
     let shifted = shifted_table(words)?;
     println!(rt;
-        "times in seconds, each beside what the car would read with word {SPOILED} dropped"
+        "times in seconds, each beside what the car would read with word {SPOILED} dropped and a 0 in the last place"
     )?;
     println!(rt; "  floor   travel  dropped     door  dropped")?;
     for floor in FLOORS {

@@ -1,34 +1,19 @@
 //! Every syndrome class, and samples of words, against a decoder that tries all patterns: once for all classes, and anew for each word of a sample.
 use crate::Survey;
 use crate::patterns::{SEED, low_ones, mixed};
-use crate::plain::Plain;
 use crate::subject::Subject;
+use crate::table::Table;
 use crate::tally::Tally;
 use crate::wrong::Wrong;
 use codes::interface::Code;
-use std::alloc::{AllocError, Global};
 use std::iter;
-
-/// The pattern of each class, where one of at most t flips is of it.
-type Table = Vec<Option<u64>>;
-
-/// Puts each pattern of at most t flips at its class.
-fn table_of(heap: Global, plain: &Plain) -> Result<Table, AllocError> {
-    let mut table = vec![in heap; None; 1 << plain.class_bits()]?;
-    for pattern in plain.patterns(0..=plain.reach) {
-        if let Some(slot) = table.get_mut(plain.class(pattern) as usize) {
-            *slot = Some(pattern);
-        }
-    }
-    Ok(table)
-}
 
 /// One word of every class: the same one for each message, added to the message's codeword.
 // A subject and a message stand side by side here and twice in `flips`: a struct of both would be made for one call each.
 fn each_class<C: Code>(subject: &Subject<C>, table: &Table, message: u64) -> Result<Tally, Wrong> {
     let codeword = subject.encode(message)?;
     Tally::of(
-        table.iter().enumerate().map(|(class, expected)| subject.answer(
+        table.patterns().iter().enumerate().map(|(class, expected)| subject.answer(
             codeword ^ subject.plain.word_of(class as u64),
             *expected,
         )),
@@ -52,8 +37,8 @@ impl<R: Print + Eprint + AllocGlobal> Survey<'_, R> {
     pub fn classes<C: Code>(&mut self, subject: &Subject<C>) -> anyhow::Result<()> {
         let plain = subject.plain;
         eprintln!(self.rt; "{plain}: syndrome classes")?;
-        let table = table_of(self.rt.alloc(), &plain)?;
-        let count = table.len();
+        let table = Table::of(self.rt.alloc(), plain)?;
+        let count = table.patterns().len();
         let codewords = plain.codewords(self.size.few);
         let plural = if codewords == 1 { "" } else { "s" };
         let mut tally = Tally::default();

@@ -1,6 +1,7 @@
 //! Every pattern of at most t flips, and every pattern of one flip more.
 use crate::Survey;
 use crate::subject::Subject;
+use crate::table::Table;
 use crate::tally::Tally;
 use crate::wrong::Wrong;
 use codes::interface::Code;
@@ -17,13 +18,15 @@ fn around<C: Code>(subject: &Subject<C>, message: u64) -> Result<Tally, Wrong> {
     )
 }
 
-/// Every pattern of so many flips, one too many, on one codeword.
-fn further<C: Code>(subject: &Subject<C>, codeword: u64, flips: u32) -> Result<Tally, Wrong> {
+/// Every pattern of one flip too many on one codeword.
+fn further<C: Code>(subject: &Subject<C>, table: &Table, codeword: u64) -> Result<Tally, Wrong> {
+    let plain = &subject.plain;
+    let flips = plain.reach + 1;
     Tally::of(
-        subject
-            .plain
+        plain
             .patterns(flips..=flips)
-            .map(|pattern| subject.answer_beyond(codeword ^ pattern)),
+            .map(|pattern| codeword ^ pattern)
+            .map(|word| subject.answer(word, table.pattern_of(word))),
     )
 }
 
@@ -47,17 +50,20 @@ impl<R: Print + Eprint> Survey<'_, R> {
         )?;
         Ok(())
     }
+}
 
+impl<R: Print + Eprint + AllocGlobal> Survey<'_, R> {
     /// Every pattern of t+1 flips on the codeword of one message.
     fn beyond_reach_of<C: Code>(
         &mut self,
         subject: &Subject<C>,
+        table: &Table,
         message: u64,
     ) -> anyhow::Result<()> {
         let plain = subject.plain;
         let flips = plain.reach + 1;
         let codeword = subject.encode(message)?;
-        let Tally { words, refused } = further(subject, codeword, flips)?;
+        let Tally { words, refused } = further(subject, table, codeword)?;
         let near = words.saturating_sub(refused);
         println!(self.rt;
             "{plain}: {words} patterns of {flips} flips on codeword {codeword:x}: {refused} refused, {near} within reach of another codeword"
@@ -70,8 +76,9 @@ impl<R: Print + Eprint> Survey<'_, R> {
     pub fn beyond_reach<C: Code>(&mut self, subject: &Subject<C>) -> anyhow::Result<()> {
         let plain = subject.plain;
         eprintln!(self.rt; "{plain}: patterns of one flip too many")?;
+        let table = Table::of(self.rt.alloc(), plain)?;
         for index in 0..self.size.few {
-            self.beyond_reach_of(subject, plain.message_of_few(index))?;
+            self.beyond_reach_of(subject, &table, plain.message_of_few(index))?;
         }
         Ok(())
     }

@@ -55,9 +55,7 @@ impl<R: Print + Eprint + AllocGlobal> Survey<'_, R> {
         self.cut(q31, [1, 2, 5, 16])?;
         self.cut(q41, [1, 2, 5, 21])
     }
-}
 
-impl<R: Print + Eprint> Survey<'_, R> {
     /// One flip too many.
     pub fn beyond(&mut self) -> anyhow::Result<()> {
         let [_, q31, q41] = cyclic();

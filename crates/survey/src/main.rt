@@ -9,6 +9,7 @@ mod plain;
 mod refusals;
 mod size;
 mod subject;
+mod table;
 mod tally;
 mod wrong;
 

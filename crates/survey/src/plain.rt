@@ -217,11 +217,6 @@ impl Plain {
         Patterns::new(flips, self.bits())
     }
 
-    /// Whether a pattern leads from a word to a codeword within reach.
-    pub fn leads(&self, word: u64, pattern: u64) -> bool {
-        pattern.count_ones() <= self.reach && self.has(word ^ pattern)
-    }
-
     /// The pattern of at most t flips that leads from a word to a codeword, found by trying all.
     pub fn nearest(&self, word: u64) -> Option<u64> {
         self.patterns(0..=self.reach)

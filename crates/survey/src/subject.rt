@@ -34,7 +34,7 @@ impl<C: Code> Subject<C> {
 
     /// A wrong answer to a word.
     fn wrong(&self, word: u64) -> Wrong {
-        Wrong {
+        Wrong::Answer {
             plain: self.plain,
             word,
         }
@@ -46,7 +46,10 @@ impl<C: Code> Subject<C> {
             .encode(message)
             .ok()
             .filter(|codeword| *codeword == self.plain.codeword(message))
-            .ok_or(self.wrong(message))
+            .ok_or(Wrong::Codeword {
+                plain: self.plain,
+                message,
+            })
     }
 
     /// The pattern that the code takes from a word, or none where it refuses the word as beyond reach.
@@ -73,12 +76,5 @@ impl<C: Code> Subject<C> {
     {
         let right = self.correct(word)? == expected;
         self.judged(word, expected, right)
-    }
-
-    /// The answer to a word whose nearest codeword is not known: a pattern that leads to a codeword within reach, or a refusal.
-    pub fn answer_beyond(&self, word: u64) -> Result<Option<u64>, Wrong> {
-        let answer = self.correct(word)?;
-        let right = answer.is_none_or(|pattern| self.plain.leads(word, pattern));
-        self.judged(word, answer, right)
     }
 }

@@ -2,10 +2,11 @@
 use crate::plain::Plain;
 use thiserror::Error;
 
-/// A word that was answered wrongly, and the code that did.
+/// What was answered wrongly, and the code that did.
 #[derive(Clone, Copy, Debug, Drop, Error)]
-#[error("{plain}: wrong answer to {word:x}")]
-pub struct Wrong {
-    pub plain: Plain,
-    pub word: u64,
+pub enum Wrong {
+    #[error("{plain}: wrong answer to the word {word:x}")]
+    Answer { plain: Plain, word: u64 },
+    #[error("{plain}: wrong codeword of the message {message:x}")]
+    Codeword { plain: Plain, message: u64 },
 }
