@@ -8,18 +8,6 @@ use crate::wrong::Wrong;
 use codes::interface::Code;
 use std::iter;
 
-/// One word of every class: the same one for each message, added to the message's codeword.
-// A subject and a message stand side by side here and twice in `flips`: a struct of both would be made for one call each.
-fn each_class<C: Code>(subject: &Subject<C>, table: &Table, message: u64) -> Result<Tally, Wrong> {
-    let codeword = subject.encode(message)?;
-    Tally::of(
-        table.patterns().iter().enumerate().map(|(class, expected)| subject.answer(
-            codeword ^ subject.plain.word_of(class as u64),
-            *expected,
-        )),
-    )
-}
-
 /// Mixed words.
 fn each_sample<C: Code>(subject: &Subject<C>, samples: usize) -> Result<Tally, Wrong> {
     let plain = &subject.plain;
@@ -37,13 +25,13 @@ impl<R: Print + Eprint + AllocGlobal> Survey<'_, R> {
     pub fn classes<C: Code>(&mut self, subject: &Subject<C>) -> anyhow::Result<()> {
         let plain = subject.plain;
         eprintln!(self.rt; "{plain}: syndrome classes")?;
-        let table = Table::of(self.rt.alloc(), plain)?;
-        let count = table.patterns().len();
+        let table = Table::of(self.rt.alloc(), subject)?;
+        let count = table.classes();
         let codewords = plain.codewords(self.size.few);
         let plural = if codewords == 1 { "" } else { "s" };
         let mut tally = Tally::default();
         for index in 0..codewords {
-            tally = each_class(subject, &table, plain.message_of_few(index))?;
+            tally = table.each_class(plain.message_of_few(index))?;
             self.count(tally.words);
         }
         let refused = tally.refused;

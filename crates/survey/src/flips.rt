@@ -18,18 +18,6 @@ fn around<C: Code>(subject: &Subject<C>, message: u64) -> Result<Tally, Wrong> {
     )
 }
 
-/// Every pattern of one flip too many on one codeword.
-fn further<C: Code>(subject: &Subject<C>, table: &Table, codeword: u64) -> Result<Tally, Wrong> {
-    let plain = &subject.plain;
-    let flips = plain.reach + 1;
-    Tally::of(
-        plain
-            .patterns(flips..=flips)
-            .map(|pattern| codeword ^ pattern)
-            .map(|word| subject.answer(word, table.pattern_of(word))),
-    )
-}
-
 impl<R: Print + Eprint> Survey<'_, R> {
     /// Every pattern of at most t flips on some codewords.
     pub fn within_reach<C: Code>(&mut self, subject: &Subject<C>) -> anyhow::Result<()> {
@@ -56,14 +44,13 @@ impl<R: Print + Eprint + AllocGlobal> Survey<'_, R> {
     /// Every pattern of t+1 flips on the codeword of one message.
     fn beyond_reach_of<C: Code>(
         &mut self,
-        subject: &Subject<C>,
-        table: &Table,
+        table: &Table<'_, C>,
         message: u64,
     ) -> anyhow::Result<()> {
-        let plain = subject.plain;
+        let plain = table.subject.plain;
         let flips = plain.reach + 1;
-        let codeword = subject.encode(message)?;
-        let Tally { words, refused } = further(subject, table, codeword)?;
+        let codeword = table.subject.encode(message)?;
+        let Tally { words, refused } = table.further(codeword)?;
         let near = words.saturating_sub(refused);
         println!(self.rt;
             "{plain}: {words} patterns of {flips} flips on codeword {codeword:x}: {refused} refused, {near} within reach of another codeword"
@@ -76,9 +63,9 @@ impl<R: Print + Eprint + AllocGlobal> Survey<'_, R> {
     pub fn beyond_reach<C: Code>(&mut self, subject: &Subject<C>) -> anyhow::Result<()> {
         let plain = subject.plain;
         eprintln!(self.rt; "{plain}: patterns of one flip too many")?;
-        let table = Table::of(self.rt.alloc(), plain)?;
+        let table = Table::of(self.rt.alloc(), subject)?;
         for index in 0..self.size.few {
-            self.beyond_reach_of(subject, &table, plain.message_of_few(index))?;
+            self.beyond_reach_of(&table, plain.message_of_few(index))?;
         }
         Ok(())
     }
