@@ -7,7 +7,7 @@ use runs::transport::carry;
 use tables::sender::send;
 
 /// A sealed report over G23 of these words.
-// Not the loop of `runs`: that one takes calls, and here they are words.
+// Not `replay` of `runs`: that one takes calls, and here they are words; the loops over words stop at a refusal, and this one goes on.
 fn heard(words: &[u64]) -> Sealed<Cyclic> {
     let mut receiver = Receiver::new(Cyclic::of(Name::G23));
     for word in words {
