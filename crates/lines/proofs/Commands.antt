@@ -13,7 +13,7 @@ use Rattle.lines.proofs.Tokens.{not_cut, same_cut, decide_cut, writes_no_space, 
 
 -- ---- the first letter
 
-abbrev first : List ℕ → ℕ
+abbrev pub first : List ℕ → ℕ
 first line = get_or line 0 0
 
 -- a line that stands for a command begins with its letter

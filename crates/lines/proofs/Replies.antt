@@ -1,5 +1,5 @@
 -- How long a reply is, and that a buffer is left one outcome.
-use Rattle.std.proofs.Common.{◌≡◌, ℕ, ◌^◌, ◌<◌, ◌≤◌, List, [], ◌∷◌, ◌++◌, length, get_or, drop, codes, sym, refl, ap, ◌∙◌, inl, inr, ⊎_elim, arith}
+use Rattle.std.proofs.Common.{◌≡◌, ℕ, ◌^◌, ◌<◌, ◌≤◌, List, [], ◌∷◌, ◌++◌, length, drop, codes, sym, refl, ap, ◌∙◌, inl, inr, ⊎_elim, arith}
 use Rattle.std.specs.List.{AllByRecursion}
 use Rattle.std.proofs.ByRecursion.{All-append, All-weaker}
 use Rattle.std.proofs.lemmas.List.{append_assoc, append_cancel_right, length-append}
@@ -14,6 +14,7 @@ use Rattle.lines.specs.Number.{text_of}
 use Rattle.lines.specs.Reply.{line_feed, field, reply_words, reply_text, text_fits, OneWriting, Told}
 use Rattle.lines.specs.Token.{space, NoSpace}
 use Rattle.lines.proofs.Numbers.{count_most, text_writes}
+use Rattle.lines.proofs.Commands.{first}
 use Rattle.lines.proofs.Tokens.{same_cut, same_text_of, writes_high, writes_no_space}
 
 -- ---- one outcome
@@ -109,9 +110,6 @@ same_settled p m e q n f h =
     (sym (append_assoc (text_of 10 p) (field 16 m) (field 16 e)) ∙ joined ∙ append_assoc (text_of 10 q) (field 16 n) (field 16 f)) in
     let messages = cut_number 16 m n (text_of 16 e) (text_of 16 f) (omega arith) places.1 in
     ap (λ (x : ℕ). Settled x m e) places.0 ∙ ap (λ (x : ℕ). Settled q x e) messages.0 ∙ ap (Settled q n) (same_text_of 16 e f (omega arith) messages.1)
-
-abbrev first : List ℕ → ℕ
-first line = get_or line 0 0
 
 apart : (r s : Reply) → reply_words r ≡ reply_words s → r ≡ s
 apart (Settled p m e) (Settled q n f) h = same_settled p m e q n f h
