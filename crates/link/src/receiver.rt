@@ -26,7 +26,9 @@ pub enum Answer {
 
 /// What the report keeps of an answer.
 impl From<Answer> for Heard {
-    ghost from_gives = { λ answer heard. (heard.place ≡ place_by answer) × (heard.flips ≡ flips_by answer) };
+    ghost use Rattle.link.specs.Report.{place_in, flips_in};
+
+    ghost from_gives = { λ answer heard. (place_in heard ≡ place_by answer) × (flips_in heard ≡ flips_by answer) };
 
     fn from(answer: Answer) -> Heard {
         match answer {
@@ -34,11 +36,11 @@ impl From<Answer> for Heard {
                 message,
                 pattern,
                 ..
-            } => Heard {
-                place: Place::Settled(message),
+            } => Heard::Settled {
                 flips: pattern.count_ones() as u8,
+                message,
             },
-            Answer::Gap { .. } => Heard::default(),
+            Answer::Gap { .. } => Heard::Gap,
         }
     }
 }
