@@ -74,13 +74,19 @@ impl Reply {
                 place,
                 message,
                 pattern,
-            } => Line::of("OK")
-                .decimal(place as u64)
-                .hexadecimal(message)
-                .hexadecimal(pattern),
-            Reply::Gap { place } => Line::of("GAP").decimal(place as u64),
-            Reply::Cleared => Line::of("CLEAR"),
-            Reply::Refused(cause) => Line::of("NO").decimal(u64::from(cause.number())),
+            } => {
+                let mut line = Line::of_place(b"OK", place);
+                line.hexadecimal(message);
+                line.hexadecimal(pattern);
+                line
+            }
+            Reply::Gap { place } => Line::of_place(b"GAP", place),
+            Reply::Cleared => Line::of(b"CLEAR"),
+            Reply::Refused(cause) => {
+                let mut line = Line::of(b"NO");
+                line.decimal(u64::from(cause.number()));
+                line
+            }
         }
     }
 
@@ -92,8 +98,9 @@ impl Reply {
         ensures plain { Plain }
     {
         one_writing();
-        let line = self.words().end();
-        let text = line.as_str().as_bytes();
+        let mut line = self.words();
+        line.end();
+        let text = line.as_slice();
         if buffer.len() < text.len() {
             return Err(too_short());
         }

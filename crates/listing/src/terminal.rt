@@ -2,20 +2,16 @@
 use listings::partial::PartialLine;
 use std::alloc::Global;
 use std::io;
-use std::io::{BufRead, BufReader, BufWriter, Read, Stdin, Stdout, Write};
+use std::io::{BufRead, BufReader, BufWriter, Stdin, Stdout, Write};
 
 /// How many bytes are read at once, and how many replies wait to be written.
 const CHUNK: usize = 65536;
 
-/// How many bytes of a line are looked at: more than any line that has a form.
-const FRONT: usize = 64;
-
-/// What is read and not yet used, the replies that are not yet written, and room for the front of a line.
+/// What is read and not yet used, and the replies that are not yet written.
 #[derive(Drop)]
 pub struct Terminal {
     input: BufReader<Stdin>,
     output: BufWriter<Stdout>,
-    front: Vec<u8>,
 }
 
 impl Terminal {
@@ -23,7 +19,6 @@ impl Terminal {
         Ok(Terminal {
             input: BufReader::with_capacity(heap, CHUNK, input)?,
             output: BufWriter::with_capacity(heap, CHUNK, output)?,
-            front: Vec::with_capacity(heap, FRONT)?,
         })
     }
 
@@ -32,35 +27,39 @@ impl Terminal {
         self.output.flush()
     }
 
-    /// Reads the front of the next line, with its line feed where it is that short. Answers how many bytes that are: none at the end of the input.
-    fn read_front(&mut self) -> io::Result<usize> {
-        // The input may pause for long before the line ends, so replies go out first.
-        if !self.input.buffer().contains(&b'\n') {
+    /// The bytes at hand, or more from the input where there are none: none at its end. Replies go out before more is read, since the input may pause for long.
+    fn at_hand(&mut self) -> io::Result<&[u8]> {
+        if self.input.buffer().is_empty() {
             self.flush()?;
         }
-        self.front.clear();
-        self.input
-            .by_ref()
-            .take(FRONT as u64)
-            .read_until(b'\n', &mut self.front)
+        self.input.fill_buf()
     }
 
     /// The next line without its line feed, or `None` where no byte is left. The last line may end with the input.
     pub fn line(&mut self) -> io::Result<Option<PartialLine>> {
-        let read = self.read_front()?;
-        if read == 0 {
-            return Ok(None);
-        }
-        if self.front.last() == Some(&b'\n') {
-            self.front.pop();
-        } else if read == FRONT {
-            self.input.skip_until(b'\n')?;
-        }
         let mut line = PartialLine::new();
-        for byte in &self.front {
-            line.push(*byte);
+        // Counted, since a line may have no end and every loop has one.
+        for _ in 0..u64::MAX {
+            let bytes = self.at_hand()?;
+            let read = bytes.len();
+            if read == 0 {
+                break;
+            }
+            // In one pass, which keeps each byte on its way to the line feed.
+            let end = bytes.iter().position(|byte| {
+                let ends = *byte == b'\n';
+                if !ends {
+                    line.push(*byte);
+                }
+                ends
+            });
+            if let Some(at) = end {
+                self.input.consume(at + 1);
+                return Ok(Some(line));
+            }
+            self.input.consume(read);
         }
-        Ok(Some(line))
+        Ok((!line.is_empty()).then_some(line))
     }
 
     /// Keeps a reply to be written.
