@@ -1,6 +1,6 @@
 //! How a record is laid out.
 ghost use Rattle.std.specs.Prelude.{◌≡◌, ◌+◌, ◌^◌, ◌<◌, ◌⊎◌, length, MatchOption};
-ghost use Rattle.records.specs.Layout.{kind_number, kind_of, CutShort, HalfEntry};
+ghost use Rattle.records.specs.Layout.{kind_number, kind_of, two_at, CutShort, HalfEntry};
 ghost use Rattle.records.specs.Steps.{Begins, of_times};
 
 /// What a record is about.
@@ -66,15 +66,15 @@ impl<'a> Record<'a> {
     pub(crate) fn at_front(bytes: &'a [u8], place: usize) -> Option<Record<'a>>
         ensures { MatchOption result (CutShort bytes.now ⊎ HalfEntry bytes.now) (Begins bytes.now place) }
     {
-        let [size_low, size_high, kind_low, kind_high, rest @ ..] = bytes else {
+        let [_, _, _, _, rest @ ..] = bytes else {
             return None;
         };
-        let size = u16::from_le_bytes([*size_low, *size_high]);
-        let kind = Kind::from(u16::from_le_bytes([*kind_low, *kind_high]));
+        let size = number_at(bytes, 0);
+        let payload = rest.get(..usize::from(size))?;
+        let kind = Kind::from(number_at(bytes, 2));
         if kind.holds_times() && size % 2 == 1 {
             return None;
         }
-        let payload = rest.get(..usize::from(size))?;
         Some(Record {
             kind,
             place,
@@ -89,4 +89,13 @@ impl<'a> Record<'a> {
     {
         self.place + HEAD + self.payload.len()
     }
+}
+
+/// The number in the two bytes at a place, the lower one first.
+// A function of its own, in which the two bytes are read at once: where a record is taken apart they are read one by one, since the lower one alone says whether the number is odd.
+fn number_at(bytes: &[u8], at: usize) -> u16
+    requires { at + 1 < length bytes.now }
+    ensures { result ≡ two_at bytes.now at }
+{
+    u16::from_le_bytes([bytes[at], bytes[at + 1]])
 }
