@@ -20,9 +20,9 @@ impl Generator {
         ensures { result ≡ times_x (parity_bits (numbers self.now)) self.now.polynomial remainder }
     {
         // The carry is 0 or 1, and as hard to foretell as a coin: a product costs less than a branch.
-        let shifted = remainder << 1;
-        let carry = shifted >> self.parity_bits();
-        shifted ^ self.polynomial * carry
+        // It is read off before the shift, so that it need not wait for it.
+        let carry = remainder >> (self.parity_bits() - 1);
+        remainder << 1 ^ self.polynomial * carry
     }
 
     /// The remainder of a word: its bits are shifted in, highest first.
